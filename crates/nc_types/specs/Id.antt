@@ -1,0 +1,31 @@
+-- Ids of messages and their order.
+use Rattle.std.specs.Prelude.{◌≡◌, ◌⊎◌, ℕ, ℤ, ◌<◌, ◌≤◌, ◌<ℤ◌, ◌≤ℤ◌, pos, negsuc, Bool, nat_lt, int_lt, ◌&&◌, ◌||◌, ◌==◌}
+use Rattle.std.specs.Ordering.{int_eq}
+
+-- a time in seconds, and a tag within that second
+pub record Id : Type 0 where
+  pub time : ℕ
+  pub tag : ℤ
+
+-- up to the last second of the year 9999
+abbrev pub IsTime : ℕ → Type 0
+IsTime t = t ≤ 253402300799
+
+-- -1, which stands for no message of that second, or a number of 16 bits
+abbrev pub IsTag : ℤ → Type 0
+IsTag g = (negsuc 0 ≤ℤ g) × (g ≤ℤ pos 65535)
+
+-- an id is past another: by time, then by tag
+abbrev pub IsPast : Id → Id → Type 0
+IsPast a b = (b.time < a.time) ⊎ ((a.time ≡ b.time) × (b.tag <ℤ a.tag))
+
+-- the same as a test
+abbrev pub is_past : Id → Id → Bool
+is_past a b = nat_lt b.time a.time || ((a.time == b.time) && int_lt b.tag a.tag)
+
+abbrev pub id_eq : Id → Id → Bool
+id_eq a b = (a.time == b.time) && int_eq a.tag b.tag
+
+-- before every message
+abbrev pub no_id : Id
+no_id = record { time = 0; tag = negsuc 0 }

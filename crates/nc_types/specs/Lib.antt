@@ -1,0 +1,4 @@
+pub mod Id
+pub mod Cursor
+pub mod Channel
+pub mod Text

@@ -1,0 +1,20 @@
+//! The types that every crate names: lists, ids, cursors, channels and texts.
+//!
+//! Nothing stands below this crate but std.
+//! The orders and moves of ids, the owner of a channel and the texts are defined in its `specs/`.
+#![tactic(auto)]
+
+mod channel;
+mod cursor;
+mod id;
+mod info;
+mod list;
+mod start;
+pub mod text;
+
+pub use channel::{ChanList, ChanName};
+pub use cursor::Cursor;
+pub use id::{GREATEST_TIME, MsgId};
+pub use info::{FullLine, Info};
+pub use list::{Bytes, List, NoMemory};
+pub use start::Start;

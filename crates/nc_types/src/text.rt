@@ -1,0 +1,83 @@
+//! Numbers in decimal, and bytes between quotation marks.
+//!
+//! The journal writes both; docs/JOURNAL.md says how they read.
+ghost use Rattle.std.specs.Prelude.{◌≡◌, ◌+◌, ◌∷◌, ◌++◌, [], ◌<◌, IfOk, OnOk};
+ghost use Rattle.std.specs.Fmt.{decimal};
+ghost use Rattle.nc_types.specs.Text.{hex_digit, quoted_byte, quoted};
+
+use crate::list::{Bytes, List, NoMemory};
+use std::alloc::Global;
+
+fn put_digit(out: &mut Vec<u8>, digit: u8) -> Result<(), NoMemory>
+    requires { digit < 10 }
+    ensures { OnOk result (out.new.items ≡ out.old.items ++ (48 + digit) ∷ []) }
+{
+    out.push(b'0' + digit)?;
+    Ok(())
+}
+
+/// Writes a number in decimal, without leading zeros, behind a text.
+pub fn put_decimal(out: &mut Vec<u8>, n: u64) -> Result<(), NoMemory>
+    ensures { OnOk result (out.new.items ≡ out.old.items ++ decimal n) }
+{
+    if n < 10 {
+        return put_digit(out, n as u8);
+    }
+    put_decimal(out, n / 10)?;
+    put_digit(out, (n % 10) as u8)
+}
+
+/// A number in decimal, without leading zeros.
+pub fn decimal(alloc: Global, n: u64) -> Result<Bytes, NoMemory>
+    ensures { IfOk result (λ text. text ≡ decimal n) }
+{
+    let mut out = Vec::new(alloc);
+    put_decimal(&mut out, n)?;
+    Ok(List::of(out))
+}
+
+fn hex_digit(n: u8) -> u8
+    requires { n < 16 }
+    ensures { result ≡ hex_digit n }
+{
+    if n < 10 { b'0' + n } else { b'a' + (n - 10) }
+}
+
+fn put_quoted_byte(out: &mut Vec<u8>, byte: u8) -> Result<(), NoMemory>
+    ensures { OnOk result (out.new.items ≡ out.old.items ++ quoted_byte byte) }
+{
+    match byte {
+        b'"' => out.extend_from_slice(b"\\\"")?,
+        b'\\' => out.extend_from_slice(b"\\\\")?,
+        b'\n' => out.extend_from_slice(b"\\n")?,
+        b'\r' => out.extend_from_slice(b"\\r")?,
+        0x20..=0x7E => out.push(byte)?,
+        _ => {
+            let high = hex_digit(byte / 16);
+            let low = hex_digit(byte % 16);
+            out.extend_from_slice(&[b'\\', b'x', high, low])?
+        }
+    }
+    Ok(())
+}
+
+/// Writes bytes between quotation marks behind a text, with escapes for what isn't printable.
+pub fn put_quoted(out: &mut Vec<u8>, bytes: &[u8]) -> Result<(), NoMemory>
+    ensures { OnOk result (out.new.items ≡ out.old.items ++ quoted bytes.now) }
+{
+    out.push(b'"')?;
+    for byte in bytes {
+        put_quoted_byte(out, *byte)?;
+    }
+    out.push(b'"')?;
+    Ok(())
+}
+
+/// Bytes between quotation marks, with escapes for what isn't printable.
+pub fn quote(alloc: Global, bytes: &[u8]) -> Result<Bytes, NoMemory>
+    ensures { IfOk result (λ text. text ≡ quoted bytes.now) }
+{
+    let mut out = Vec::new(alloc);
+    put_quoted(&mut out, bytes)?;
+    Ok(List::of(out))
+}
