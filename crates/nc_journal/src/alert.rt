@@ -81,5 +81,3 @@ pub enum AlertLine {
         info: Option<Info>,
     },
 }
-
-/// What happened.
