@@ -1,0 +1,6 @@
+pub mod History
+pub mod Stamp
+pub mod Message
+pub mod Standing
+pub mod Sending
+pub mod Lawful
