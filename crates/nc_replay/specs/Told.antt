@@ -1,0 +1,117 @@
+-- The events that each line of a script tells, by the history before it.
+use Rattle.std.specs.Prelude.{◌≡◌, ◌⊎◌, ℕ, ◌+◌, ◌<◌, not, Bool, true, false, List, [], ◌∷◌, ◌++◌, length, if◌then◌else◌, ◌==◌, Option, Some, None}
+use Rattle.std.specs.List.{AllByRecursion, flat_map}
+use Rattle.std.specs.Option.{option_map}
+use Rattle.nc_types.specs.Id.{Id, is_past, no_id}
+use Rattle.nc_types.specs.Cursor.{CursorAt, cursor_id, cursor_of, moved}
+use Rattle.nc_types.specs.declared.start.Start.TheVariants.{Given}
+use Rattle.nc_journal.specs.declared.word.ModeLine.TheVariants.{Direct}
+use Rattle.nc_journal.specs.declared.word.EndedCause.TheVariants.{Answered}
+use Rattle.nc_journal.specs.declared.event.Event.{Event}
+use Rattle.nc_journal.specs.declared.event.Event.TheVariants.{Clock as ClockEvent, Subscribed, Started, Stored, Looked, Sent, Ended, Quiet}
+use Rattle.nc_journal.specs.History.{own, onto}
+use Rattle.nc_journal.specs.Stamp.{Order, clock_of, floor_of, stamp, expiry}
+use Rattle.nc_journal.specs.Message.{Message, first_past}
+use Rattle.nc_journal.specs.Standing.{Stage, Absent, Standing, stage_of}
+use Rattle.nc_replay.specs.declared.line.Line.{Line}
+use Rattle.nc_replay.specs.declared.line.Line.TheVariants.{Clock, Post, Poll}
+use Rattle.nc_replay.specs.Script.{Spells}
+
+-- how many messages were stored
+abbrev pub posts_of : List Event → ℕ
+posts_of [] = 0
+posts_of (Stored w c id slot len exp kept members from r ct body ∷ h) = posts_of h + 1
+posts_of (e ∷ h) = posts_of h
+
+-- how many subscribers there have been
+abbrev pub polls_of : List Event → ℕ
+polls_of [] = 0
+polls_of (Subscribed w k conn list mode start timeout close ∷ h) = polls_of h + 1
+polls_of (e ∷ h) = polls_of h
+
+-- the number of a subscriber's look: how many subscribers there were before it
+abbrev pub look_of : ℕ → List Event → ℕ
+look_of k [] = 0
+look_of k (Subscribed w n conn list mode start timeout close ∷ h) = if n == k then polls_of h else look_of k h
+look_of k (e ∷ h) = look_of k h
+
+abbrev pub StandsAt : List ℕ → Stage → Type 0
+StandsAt c (Standing list once cur) = list ≡ c ∷ []
+StandsAt c _ = ⊥
+
+abbrev pub IsAscending : List ℕ → Type 0
+IsAscending [] = Unit {0}
+IsAscending (k ∷ ks) = AllByRecursion (λ n. k < n) ks × IsAscending ks
+
+abbrev pub HasNumber : List ℕ → ℕ → Type 0
+HasNumber [] k = ⊥
+HasNumber (n ∷ ks) k = (n ≡ k) ⊎ HasNumber ks k
+
+-- the subscribers of a channel that stand, each once, in ascending order
+pub record AreStanding (c : List ℕ) (h : List Event) (ks : List ℕ) : Type 0 where
+  pub ascending : IsAscending ks
+  pub each : AllByRecursion (λ k. StandsAt c (stage_of k h)) ks
+  pub all : (k : ℕ) → StandsAt c (stage_of k h) → HasNumber ks k
+
+-- a message goes to a subscriber, whom it ends
+abbrev pub sends : ℕ → List ℕ → Id → CursorAt → ℕ → List Event
+sends k c id cur look = Sent 0 k 0 c id cur (look ∷ []) ∷ Ended 0 k Answered ∷ []
+
+-- it goes to one that stands, where it is past the cursor
+abbrev pub sends_from : ℕ → List ℕ → Id → ℕ → Stage → List Event
+sends_from k c id look (Standing list once cur) = if is_past id (cursor_id cur 0) then sends k c id (moved cur 0 id) look else []
+sends_from k c id look _ = []
+
+abbrev pub sends_to : List ℕ → Id → List Event → ℕ → List Event
+sends_to c id h k = sends_from k c id (look_of k h) (stage_of k h)
+
+-- what a post orders: the default length and time-out, and no type
+abbrev pub order_of : List ℕ → Order
+order_of body = record { len = 10; timeout = 3600; ct = None; body = body }
+
+-- the stored event of an order, by the local history of the owner
+abbrev pub stored_of : List ℕ → Order → ℕ → List Event → Event
+stored_of c order members h = Stored 0 c (stamp c h) 0 order.len (expiry (clock_of h) order.timeout) (not (order.len == 0)) members 0 (posts_of h) order.ct order.body
+
+-- the events of a post, where these subscribers stand
+abbrev pub told_post : List ℕ → List ℕ → List ℕ → List Event → List Event
+told_post c body ks h = stored_of c (order_of body) (length ks) h ∷ flat_map (sends_to c (stamp c h) h) ks ++ Quiet ∷ []
+
+abbrev pub found_sends : ℕ → List ℕ → ℕ → Option Message → List Event
+found_sends k c look None = []
+found_sends k c look (Some m) = sends k c m.id (cursor_of m.id) look
+
+abbrev pub found_id : Option Message → Option Id
+found_id found = option_map (λ m. m.id) found
+
+-- the events of a poll behind an id, by the whole history and the local one
+abbrev pub told_poll : ℕ → List ℕ → Id → List Event → List Event → List Event
+told_poll k c from whole h =
+    let found = first_past c from whole in
+    Subscribed 0 k None (c ∷ []) Direct (Given (cursor_of from)) 0 false ∷ Started 0 k (cursor_of from)
+    ∷ Looked 0 (polls_of h) 0 (polls_of h) c from (floor_of h) (found_id found) ∷ found_sends k c (polls_of h) found ++ Quiet ∷ []
+
+-- the events that a line tells after a history
+abbrev pub Tells : List Event → Line → List Event → Type 0
+Tells h (Clock t) es = es ≡ ClockEvent 0 t ∷ Quiet ∷ []
+Tells h (Post c body) es = (ks : List ℕ) × AreStanding c (own 0 h) ks × (es ≡ told_post c body ks (own 0 h))
+Tells h (Poll k c) es = es ≡ told_poll k c no_id h (own 0 h)
+
+-- a poll takes a number that no earlier line used
+abbrev pub IsNew : List Event → Line → Type 0
+IsNew h (Poll k c) = stage_of k (own 0 h) ≡ Absent
+IsNew h _ = Unit {0}
+
+-- what a text says after a history
+pub record Says (h : List Event) (text : List ℕ) (line : Line) : Type 0 where
+  pub spells : Spells text line
+  pub new : IsNew h line
+
+-- a text that is out of form after a history
+abbrev pub IsFaulty : List Event → List ℕ → Type 0
+IsFaulty h text = (line : Line) → Says h text line → ⊥
+
+-- the texts of some lines, made one after the other, lead from a history to another
+abbrev pub Leads : List Event → List (List ℕ) → List Event → Type 0
+Leads h [] after = after ≡ h
+Leads h (text ∷ texts) after = (line : Line) × (es : List Event) × Says h text line × Tells h line es × Leads (onto es h) texts after
