@@ -1,3 +1,4 @@
 pub mod Cuts
 pub mod Ids
 pub mod Buffers
+pub mod Rising
