@@ -64,6 +64,11 @@ last-rises workers c e h s =
 own_yes : (w : ℕ) (e : Event) (h : List Event) → is_by w e ≡ true → own w (e ∷ h) ≡ e ∷ own w h
 own_yes w e h is = ap (λ b. cond b (e ∷ own w h) (own w h)) is
 
+-- what holds of each message holds of each after one that may be added
+all_with : (P : Message → Type 0) (b : Bool) (ms : List Message) (m : Message) → AllByRecursion P ms → (b ≡ true → P m) → AllByRecursion P (cond b (ms ++ m ∷ []) ms)
+all_with P true ms m all here = all-append P ms (m ∷ []) all (here refl, tt)
+all_with P false ms m all here = all
+
 -- a message is at most the last id of a channel
 abbrev pub IsUpToLast : ℕ → List ℕ → List Event → Message → Type 0
 IsUpToLast workers c h m = IsAtMost m.id (last_of c (own (owner_of workers c) h))
@@ -75,7 +80,10 @@ stays_up_to workers c e h ms s below = all-weaker (IsUpToLast workers c h) (IsUp
 -- each message of a channel is at most the channel's last id
 pub published-below : (workers : ℕ) (c : List ℕ) (h : List Event) → IsStamped workers h → AllByRecursion (IsUpToLast workers c h) (published c h)
 published-below workers c [] s = tt
-published-below workers c (Stored w d id slot len exp kept members from r ct body ∷ h) s = by_name (name_eq d c) refl (stays_up_to workers c (Stored w d id slot len exp kept members from r ct body) h (published c h) s.1 (published-below workers c h s.0))
+published-below workers c (Stored w d id slot len exp kept members from r ct body ∷ h) s =
+    all_with (IsUpToLast workers c (Stored w d id slot len exp kept members from r ct body ∷ h)) (name_eq d c) (published c h) (message_of id slot exp ct body)
+    (stays_up_to workers c (Stored w d id slot len exp kept members from r ct body) h (published c h) s.1 (published-below workers c h s.0))
+    (λ same. subst (IsAtMost id) (sym (is_last same)) (at_most-refl id))
   where
     is_owner : name_eq d c ≡ true → owner_of workers c ≡ w
     is_owner same = ap (owner_of workers) (sym (same_text d c (sym same))) ∙ sym s.1.owner
@@ -84,10 +92,6 @@ published-below workers c (Stored w d id slot len exp kept members from r ct bod
     is_last same =
         ap (last_of c) (own_yes (owner_of workers c) (Stored w d id slot len exp kept members from r ct body) h (eq-eqb (owner_of workers c) w (is_owner same)))
         ∙ ap (λ b. unwrap_or (cond b (Some id) (made_last c (own (owner_of workers c) h))) (spent_of (own (owner_of workers c) h))) same
-
-    by_name : (b : Bool) → name_eq d c ≡ b → AllByRecursion (IsUpToLast workers c (Stored w d id slot len exp kept members from r ct body ∷ h)) (published c h) → AllByRecursion (IsUpToLast workers c (Stored w d id slot len exp kept members from r ct body ∷ h)) (cond b (published c h ++ message_of id slot exp ct body ∷ []) (published c h))
-    by_name true same older = all-append (IsUpToLast workers c (Stored w d id slot len exp kept members from r ct body ∷ h)) (published c h) (message_of id slot exp ct body ∷ []) older (subst (IsAtMost id) (sym (is_last same)) (at_most-refl id), tt)
-    by_name false other older = older
 published-below workers c (e ∷ h) s = stays_up_to workers c e h (published c h) s.1 (published-below workers c h s.0)
 
 -- a message that is stored under the stamp rule is past each message of its channel so far
@@ -116,8 +120,6 @@ last-low workers c (e ∷ h) stamped = at_most-trans no_id (last_of c (own (owne
 pub all-past-none : (workers : ℕ) (c : List ℕ) (h : List Event) → IsStamped workers h → AllByRecursion (λ m. IsPast m.id no_id) (published c h)
 all-past-none workers c [] stamped = tt
 all-past-none workers c (Stored w d id slot len exp kept members from r ct body ∷ h) stamped =
-    let older = all-past-none workers c h stamped.0 in
-    cond_both (name_eq d c) _ _ (AllByRecursion (λ m. IsPast m.id no_id))
-    (λ _. all-append (λ m. IsPast m.id no_id) (published c h) (message_of id slot exp ct body ∷ []) older (past_of_at_most no_id (last_of d (own (owner_of workers d) h)) id (last-low workers d h stamped.0) (stored-past-last workers w d id h stamped.1), tt))
-    (λ _. older)
+    all_with (λ m. IsPast m.id no_id) (name_eq d c) (published c h) (message_of id slot exp ct body) (all-past-none workers c h stamped.0)
+    (λ _. past_of_at_most no_id (last_of d (own (owner_of workers d) h)) id (last-low workers d h stamped.0) (stored-past-last workers w d id h stamped.1))
 all-past-none workers c (e ∷ h) stamped = all-past-none workers c h stamped.0

@@ -6,8 +6,10 @@
 
 mod alert;
 mod event;
+mod laws;
 mod word;
 
 pub use alert::AlertLine;
 pub use event::Event;
+pub use laws::ids_rise;
 pub use word::{Act, AlertKind, EndedCause, LeftCause, ModeLine, RemovedCause, ShutCause};
