@@ -179,3 +179,9 @@ pub enum Event {
     },
     Quiet,
 }
+
+/// The events of a step, in the order in which they happened.
+#[derive(Drop)]
+pub struct EventList {
+    pub events: List<Event>,
+}

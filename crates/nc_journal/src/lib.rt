@@ -10,6 +10,6 @@ mod laws;
 mod word;
 
 pub use alert::AlertLine;
-pub use event::Event;
+pub use event::{Event, EventList};
 pub use laws::ids_rise;
 pub use word::{Act, AlertKind, EndedCause, LeftCause, ModeLine, RemovedCause, ShutCause};

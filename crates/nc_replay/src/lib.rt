@@ -3,6 +3,7 @@
 //! Below stand `nc_types`, `nc_outside` and `nc_journal`; above stands the program.
 #![tactic(auto)]
 
+mod engine;
 mod line;
 
 pub use line::Line;
