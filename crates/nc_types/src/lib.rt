@@ -10,6 +10,8 @@ mod id;
 mod info;
 mod list;
 mod start;
+#[cfg(test)]
+mod tests;
 pub mod text;
 
 pub use channel::{ChanList, ChanName};
