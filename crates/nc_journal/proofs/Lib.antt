@@ -2,3 +2,5 @@ pub mod Cuts
 pub mod Ids
 pub mod Buffers
 pub mod Rising
+pub mod TextLaws
+pub mod Standings

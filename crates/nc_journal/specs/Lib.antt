@@ -4,3 +4,7 @@ pub mod Message
 pub mod Standing
 pub mod Sending
 pub mod Lawful
+pub mod Word
+pub mod Field
+pub mod Line
+pub mod Text

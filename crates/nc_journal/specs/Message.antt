@@ -1,9 +1,8 @@
 -- The messages of a channel: which were stored, which are gone, which are buffered.
-use Rattle.std.specs.Prelude.{ℕ, Bool, true, false, not, List, [], ◌∷◌, ◌++◌, if◌then◌else◌, ◌&&◌, ◌||◌, filter, Option, find}
+use Rattle.std.specs.Prelude.{ℕ, Bool, false, not, List, [], ◌∷◌, ◌++◌, if◌then◌else◌, ◌&&◌, ◌||◌, filter, Option, find}
 use Rattle.std.specs.List.{AllByRecursion}
 use Rattle.nc_types.specs.Id.{Id, IsPast, is_past, id_eq}
 use Rattle.nc_types.specs.Channel.{name_eq}
-use Rattle.nc_journal.specs.History.{own}
 use Rattle.nc_journal.specs.Stamp.{IsStamped}
 use Rattle.nc_journal.specs.declared.event.Event.{Event}
 use Rattle.nc_journal.specs.declared.event.Event.TheVariants.{Stored, Left}

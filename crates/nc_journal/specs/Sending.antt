@@ -4,8 +4,7 @@ use Rattle.std.specs.List.{AllByRecursion}
 use Rattle.nc_types.specs.Id.{Id, IsPast}
 use Rattle.nc_types.specs.Cursor.{CursorAt, cursor_id, moved}
 use Rattle.nc_types.specs.Channel.{owner_of}
-use Rattle.nc_types.specs.declared.start.Start.{Start}
-use Rattle.nc_types.specs.declared.start.Start.TheVariants.{Oldest, Newest, Given}
+use Rattle.nc_types.specs.declared.start.Start.TheVariants.{Oldest, Given}
 use Rattle.nc_journal.specs.History.{own, Along, AtEachCut}
 use Rattle.nc_journal.specs.Message.{Message, published, buffer}
 use Rattle.nc_journal.specs.Standing.{Stage, Starting, Standing, stage_of}

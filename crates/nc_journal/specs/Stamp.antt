@@ -1,6 +1,6 @@
 -- The stamp rule: which id a message gets, by what its owner did before.
 -- The definitions up to `stamp` read the local history of one owner.
-use Rattle.std.specs.Prelude.{◌≡◌, ℕ, pos, ◌+◌, ◌+ℤ◌, ◌<◌, max, Bool, not, List, [], ◌∷◌, if◌then◌else◌, ◌==◌, nat_lt, int_lt, Option, Some, None, unwrap_or}
+use Rattle.std.specs.Prelude.{◌≡◌, ℕ, pos, ◌+◌, ◌+ℤ◌, ◌<◌, max, not, List, [], ◌∷◌, if◌then◌else◌, ◌==◌, nat_lt, int_lt, Option, Some, None, unwrap_or}
 use Rattle.nc_types.specs.Id.{Id, IsTime, is_past, no_id}
 use Rattle.nc_types.specs.Channel.{name_eq, owner_of}
 use Rattle.nc_journal.specs.History.{own, Along}

@@ -1,5 +1,5 @@
 -- Standing: how far each subscriber has come.
-use Rattle.std.specs.Prelude.{◌≡◌, ℕ, Bool, true, false, List, [], ◌∷◌, if◌then◌else◌, ◌==◌}
+use Rattle.std.specs.Prelude.{◌≡◌, ℕ, Bool, true, false, List, [], ◌∷◌, if◌then◌else◌, ◌==◌, ◌||◌}
 use Rattle.nc_types.specs.Cursor.{CursorAt}
 use Rattle.nc_types.specs.declared.start.Start.{Start}
 use Rattle.nc_journal.specs.declared.word.ModeLine.{ModeLine}
@@ -42,6 +42,12 @@ stage_of k (Started w n cur ∷ h) = if n == k then started cur (stage_of k h) e
 stage_of k (Sent w n i c id cur looks ∷ h) = if n == k then served cur (stage_of k h) else stage_of k h
 stage_of k (Ended w n cause ∷ h) = if n == k then Over else stage_of k h
 stage_of k (e ∷ h) = stage_of k h
+
+-- whether there was ever a subscriber k
+abbrev pub is_subscribed : ℕ → List Event → Bool
+is_subscribed k [] = false
+is_subscribed k (Subscribed w n conn list mode start timeout close ∷ h) = (n == k) || is_subscribed k h
+is_subscribed k (e ∷ h) = is_subscribed k h
 
 abbrev pub IsStarting : Stage → Type 0
 IsStarting (Starting list once start) = Unit {0}

@@ -5,11 +5,23 @@
 #![tactic(auto)]
 
 mod alert;
+mod alert_lines;
+mod connection_lines;
 mod event;
+mod field;
 mod laws;
+mod line;
+mod owner_lines;
+mod subscriber_lines;
 mod word;
+mod words;
+mod worker_lines;
 
 pub use alert::AlertLine;
 pub use event::{Event, EventList};
-pub use laws::ids_rise;
+pub use laws::{ids_rise, text_grows};
+pub use line::{line_of, put_lines};
 pub use word::{Act, AlertKind, EndedCause, LeftCause, ModeLine, RemovedCause, ShutCause};
+
+#[cfg(test)]
+mod tests;

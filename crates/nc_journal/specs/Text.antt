@@ -1,0 +1,23 @@
+-- The text of a journal: a line for each event, ended by LF.
+use Rattle.std.specs.Prelude.{◌≡◌, ℕ, List, [], ◌∷◌, ◌++◌}
+use Rattle.std.specs.List.{flat_map}
+use Rattle.nc_journal.specs.declared.event.Event.{Event}
+use Rattle.nc_journal.specs.Line.{line}
+use Rattle.nc_journal.specs.History.{onto}
+
+-- a line and its end
+abbrev pub ended_line : Event → List ℕ
+ended_line e = line e ++ 10 ∷ []
+
+-- the text of a history, whose newest event comes first and has the last line
+abbrev pub text_of : List Event → List ℕ
+text_of [] = []
+text_of (e ∷ older) = text_of older ++ line e ++ 10 ∷ []
+
+-- the lines of some events, in the order in which they happened
+abbrev pub lines_text : List Event → List ℕ
+lines_text events = flat_map ended_line events
+
+-- the text of a history on which events were put is its text and then their lines
+abbrev pub TextGrows : List Event → List Event → Type 0
+TextGrows events history = text_of (onto events history) ≡ text_of history ++ lines_text events
