@@ -1,5 +1,7 @@
 -- Where a channel and a subscriber stand in the engine's lists.
-use Rattle.std.proofs.Common.{◌≡◌, ℕ, zero, suc, ◌+◌, ◌<◌, ◌≤◌, Bool, true, false, cond, List, [], ◌∷◌, ◌++◌, refl, sym, ◌∙◌, ap, subst, arith, length, get_or, set, insert, nat_lt, add-one, length-append}
+use Rattle.std.proofs.Common.{◌≡◌, ℕ, zero, suc, ◌+◌, ◌<◌, ◌≤◌, Bool, true, false, cond, List, [], ◌∷◌, ◌++◌, refl, sym, ◌∙◌, ap, subst, arith, length, get_or, set, insert, nat_lt, add-one, length-append, true≢false}
+use Rattle.std.specs.Cmp.Lexicographic.{same_text, bytes_decides}
+use Rattle.std.proofs.lemmas.Bool.{cond_both}
 use Rattle.nc_types.specs.Channel.{name_eq}
 use Rattle.nc_replay.specs.declared.engine.Channel.{Channel}
 use Rattle.nc_replay.specs.declared.engine.Waiting.{Waiting}
@@ -84,3 +86,41 @@ place-kept c channels at place = record { within = place.within; is_there = plac
 
 pub channel-at : (c : List ℕ) (channels made : List Channel) (at : ℕ) (x : Channel) → IsPlaceFor c channels made at → x ≡ get_or made at x → x ≡ channel_of c channels
 channel-at c channels made at x place is = is ∙ place.is_there x
+
+pub name-same : (c d : List ℕ) → name_eq c d ≡ true → c ≡ d
+name-same c d same = same_text c d (sym same)
+
+pub name-self : (c d : List ℕ) → c ≡ d → name_eq c d ≡ true
+name-self c d same = (bytes_decides c d).1 same
+
+-- the channel of a name has it
+pub channel-name : (c : List ℕ) (channels : List Channel) → (channel_of c channels).name ≡ c
+channel-name c [] = refl
+channel-name c (x ∷ rest) = cond_both (name_eq x.name c) x (channel_of c rest) (λ (y : Channel). y.name ≡ c) (λ same. name-same x.name c same) (λ _. channel-name c rest)
+
+-- where the new channel takes the place of one of its name, or stands before one of another
+replaced : (both second : Bool) (x y rest : Channel) → second ≡ both → cond both x rest ≡ cond both x (cond second y rest)
+replaced true second x y rest same = refl
+replaced false second x y rest same = rw same refl
+
+passed : (first second : Bool) (x y rest : Channel) → (first ≡ true → second ≡ true → ⊥) → cond second y (cond first x rest) ≡ cond first x (cond second y rest)
+passed true true x y rest apart = absurd (apart refl refl)
+passed true false x y rest apart = refl
+passed false second x y rest apart = refl
+
+-- the channel of a name once another of name c was put in its place
+pub channel-with : (c d : List ℕ) (x : Channel) (channels : List Channel) → x.name ≡ c → channel_of d (with_channel c x channels) ≡ cond (name_eq c d) x (channel_of d channels)
+channel-with c d x [] is = ap (λ n. cond (name_eq n d) x (no_channel d)) is
+channel-with c d x (y ∷ rest) is = cond_both (name_eq y.name c) (x ∷ rest) (y ∷ with_channel c x rest) (λ l. channel_of d l ≡ cond (name_eq c d) x (cond (name_eq y.name d) y (channel_of d rest)))
+    (λ same. ap (λ n. cond (name_eq n d) x (channel_of d rest)) is ∙ replaced (name_eq c d) (name_eq y.name d) x y (channel_of d rest) (ap (λ n. name_eq n d) (name-same y.name c same)))
+    (λ other. ap (λ z. cond (name_eq y.name d) y z) (channel-with c d x rest is) ∙ passed (name_eq c d) (name_eq y.name d) x y (channel_of d rest) (λ here there. true≢false (sym (name-self y.name c (name-same y.name d there ∙ sym (name-same c d here))) ∙ other)))
+
+-- what holds of each channel holds of each once the one of a name is another of which it holds
+pub each-channel : (P : List ℕ → Channel → Type 0) (c : List ℕ) (x : Channel) (channels : List Channel) → x.name ≡ c → P c x → ((d : List ℕ) → P d (channel_of d channels)) → (d : List ℕ) → P d (channel_of d (with_channel c x channels))
+each-channel P c x channels is here others d = subst (P d) (sym (channel-with c d x channels is)) (cond_both (name_eq c d) x (channel_of d channels) (P d)
+    (λ same. subst (λ n. P n x) (name-same c d same) here)
+    (λ _. others d))
+
+-- at the name itself
+pub channel-here : (c : List ℕ) (x : Channel) (channels : List Channel) → x.name ≡ c → channel_of c (with_channel c x channels) ≡ x
+channel-here c x channels is = channel-with c c x channels is ∙ ap (λ b. cond b x (channel_of c channels)) (name-self c c refl)

@@ -1,1 +1,11 @@
+pub mod Cuts
+pub mod Spelled
+pub mod Flows
 pub mod Channels
+pub mod Good
+pub mod Stand
+pub mod Poll
+pub mod Post
+pub mod Step
+pub mod Loop
+pub mod Ends

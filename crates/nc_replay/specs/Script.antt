@@ -1,5 +1,5 @@
 -- The lines of a script: how a text is cut into lines, and what each form of line says.
-use Rattle.std.specs.Prelude.{◌≡◌, ◌⊎◌, ℕ, ◌+◌, ◌-◌, ◌*◌, ◌<◌, ◌≤◌, ◌≢◌, List, [], ◌∷◌, ◌++◌, length, codes, if◌then◌else◌, ◌==◌, fold}
+use Rattle.std.specs.Prelude.{◌≡◌, ◌⊎◌, ℕ, ◌+◌, ◌-◌, ◌*◌, ◌<◌, ◌≤◌, ◌≢◌, List, [], ◌∷◌, ◌++◌, length, codes, if◌then◌else◌, ◌==◌, fold, Option, MatchOption}
 use Rattle.std.specs.List.{AllByRecursion}
 use Rattle.nc_replay.specs.declared.line.Line.{Line}
 use Rattle.nc_replay.specs.declared.line.Line.TheVariants.{Clock, Post, Poll}
@@ -50,3 +50,16 @@ abbrev pub Spells : List ℕ → Line → Type 0
 Spells text (Clock t) = (digits : List ℕ) × (text ≡ codes "clock 0 " ++ digits) × SpellsNumber 4102444800 digits t
 Spells text (Post name body) = (text ≡ codes "post 0 " ++ name ++ codes " \"" ++ body ++ codes "\"") × IsName name × IsBody body
 Spells text (Poll k name) = (digits : List ℕ) × (text ≡ codes "poll 0 " ++ digits ++ codes " " ++ name ++ codes " 0:-") × SpellsNumber 65535 digits k × IsName name
+
+-- a text spells at most one line
+abbrev pub SpellsOneLine : Type 0
+SpellsOneLine = (text : List ℕ) (l m : Line) → Spells text l → Spells text m → l ≡ m
+
+-- an option has what is looked for, and is `None` exactly where there is no such thing
+abbrev pub Finds : {X : Type 0} → (X → Type 0) → Option X → Type 0
+Finds {X} P found = MatchOption found ((x : X) → P x → ⊥) P
+
+-- a text is cut at the first such byte into what stands before it and behind it
+pub record IsCut (byte : ℕ) (text front back : List ℕ) : Type 0 where
+  pub joined : text ≡ front ++ byte ∷ back
+  pub first : AllByRecursion (λ b. b ≢ byte) front

@@ -10,9 +10,9 @@ use Rattle.nc_journal.specs.declared.word.EndedCause.TheVariants.{Answered}
 use Rattle.nc_journal.specs.declared.event.Event.{Event}
 use Rattle.nc_journal.specs.declared.event.Event.TheVariants.{Clock as ClockEvent, Subscribed, Started, Stored, Looked, Sent, Ended, Quiet}
 use Rattle.nc_journal.specs.History.{own, onto}
-use Rattle.nc_journal.specs.Stamp.{Order, clock_of, floor_of, stamp, expiry}
+use Rattle.nc_journal.specs.Stamp.{Order, StoresOrder, clock_of, floor_of, stamp, expiry}
 use Rattle.nc_journal.specs.Message.{Message, first_past}
-use Rattle.nc_journal.specs.Standing.{Stage, Absent, Standing, stage_of}
+use Rattle.nc_journal.specs.Standing.{Stage, Standing, stage_of, is_subscribed}
 use Rattle.nc_replay.specs.declared.line.Line.{Line}
 use Rattle.nc_replay.specs.declared.line.Line.TheVariants.{Clock, Post, Poll}
 use Rattle.nc_replay.specs.Script.{Spells}
@@ -73,6 +73,10 @@ order_of body = record { len = 10; timeout = 3600; ct = None; body = body }
 abbrev pub stored_of : List ℕ → Order → ℕ → List Event → Event
 stored_of c order members h = Stored 0 c (stamp c h) 0 order.len (expiry (clock_of h) order.timeout) (not (order.len == 0)) members 0 (posts_of h) order.ct order.body
 
+-- it keeps what was ordered: the length, the type and the body, and it expires by the time-out
+abbrev pub StoresItsOrder : Type 0
+StoresItsOrder = (c : List ℕ) (order : Order) (members : ℕ) (h : List Event) → StoresOrder order (clock_of h) (stored_of c order members h)
+
 -- the events of a post, where these subscribers stand
 abbrev pub told_post : List ℕ → List ℕ → List ℕ → List Event → List Event
 told_post c body ks h = stored_of c (order_of body) (length ks) h ∷ flat_map (sends_to c (stamp c h) h) ks ++ Quiet ∷ []
@@ -99,7 +103,7 @@ Tells h (Poll k c) es = es ≡ told_poll k c no_id h (own 0 h)
 
 -- a poll takes a number that no earlier line used
 abbrev pub IsNew : List Event → Line → Type 0
-IsNew h (Poll k c) = stage_of k (own 0 h) ≡ Absent
+IsNew h (Poll k c) = is_subscribed k (own 0 h) ≡ false
 IsNew h _ = Unit {0}
 
 -- what a text says after a history

@@ -3,7 +3,17 @@
 //! Below stand `nc_types`, `nc_outside` and `nc_journal`; above stands the program.
 #![tactic(auto)]
 
+mod command;
 mod engine;
+mod input;
+mod laws;
 mod line;
+mod replay;
+mod script;
+#[cfg(test)]
+mod tests;
+#[cfg(test)]
+mod top_tests;
 
-pub use line::Line;
+pub use command::top;
+pub use laws::{post_stores_its_order, text_spells_one_line};

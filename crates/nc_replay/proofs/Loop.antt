@@ -1,0 +1,251 @@
+-- What is known between two lines of a script while they are made.
+use Rattle.std.proofs.Common.{◌≡◌, ℕ, ◌+◌, ◌<◌, ◌≤◌, Bool, true, false, not, cond, ◌==◌, ◌||◌, List, [], ◌∷◌, ◌++◌, length, refl, sym, ◌∙◌, subst, ap, arith, Option, Some, None, Result, Ok, Err, append_assoc, length-append, true≢false}
+use Rattle.std.specs.Prelude.{OnErr}
+use Rattle.std.specs.List.{flat_map}
+use Rattle.std.proofs.lemmas.List.{append-nil}
+use Rattle.std.proofs.lemmas.List.Folds.{list_any-append}
+use Rattle.nc_types.specs.Id.{Id, no_id, is_past}
+use Rattle.nc_journal.specs.declared.event.Event.{Event}
+use Rattle.nc_journal.specs.History.{own, onto}
+use Rattle.nc_journal.specs.Standing.{is_subscribed}
+use Rattle.nc_journal.specs.Text.{text_of, lines_text}
+use Rattle.nc_journal.specs.declared.event.Event.TheVariants.{Stored, Quiet}
+use Rattle.nc_journal.proofs.Cuts.{onto-append}
+use Rattle.nc_journal.proofs.TextLaws.{text_grows}
+use Rattle.nc_types.specs.Cursor.{CursorAt, cursor_of}
+use Rattle.nc_replay.specs.declared.engine.Waiting.{Waiting}
+use Rattle.nc_replay.specs.declared.line.Line.{Line}
+use Rattle.nc_replay.specs.declared.line.Line.TheVariants.{Clock, Post, Poll}
+use Rattle.nc_replay.specs.Script.{lines_of, Spells, Finds}
+use Rattle.nc_replay.specs.Told.{Says, Tells, Leads, IsNew, sends}
+use Rattle.nc_replay.specs.Machine.{State, start, events_of, after, Fits, sends_waiting, first_id, channel_of, next_stamp, found_events, begins}
+use Rattle.nc_replay.specs.Input.{Adds, AddsPrefix}
+use Rattle.nc_replay.specs.Run.{is_among, takes_new, used_after, SaysNew, MakesAll, MakesUntil, MakesSome}
+use Rattle.nc_replay.proofs.Spelled.{one_line}
+use Rattle.nc_replay.proofs.Good.{good-lawful}
+use Rattle.nc_replay.proofs.Stand.{StandsFor, stands-start}
+use Rattle.nc_replay.proofs.Step.{HasCome, IsWithin, makes-line, come-start, come-fits}
+
+-- between two lines: what was made of all lines, and what stands behind them
+pub record Made (first now : Option (List ℕ)) (all : List (List ℕ)) (s : State) (used : List ℕ) (number : ℕ) (rest : List ℕ) (most : ℕ) : Type 0 where
+  pub h : List Event
+  pub made : List (List ℕ)
+  pub cut : all ≡ made ++ lines_of rest
+  pub leads : Leads [] made h
+  pub stands : StandsFor s h
+  pub come : HasCome s (length made)
+  pub among : (k : ℕ) → is_among used k ≡ is_subscribed k (own 0 h)
+  pub counted : number ≡ length made + 2
+  pub room : length made + length rest ≤ most
+  pub written : Adds (text_of h) first now
+
+pub adds-nothing : (taken : Option (List ℕ)) → Adds [] taken taken
+adds-nothing None = refl
+adds-nothing (Some bytes) = ap (λ (l : List ℕ). Some l) (sym (append-nil bytes))
+
+pub adds-more : (text more : List ℕ) (first now new : Option (List ℕ)) → Adds text first now → Adds more now new → Adds (text ++ more) first new
+adds-more text more None now new h k = subst (λ (o : Option (List ℕ)). Adds more o new) h k
+adds-more text more (Some bytes) now new h k = subst (λ (o : Option (List ℕ)). Adds more o new) h k ∙ ap (λ (l : List ℕ). Some l) (append_assoc bytes text more)
+
+pub adds-prefix : (text more : List ℕ) (first now new : Option (List ℕ)) → Adds text first now → AddsPrefix more now new → AddsPrefix (text ++ more) first new
+adds-prefix text more first now new h k =
+    let before = k.1 in (
+      k.0,
+      record {
+        piece = text ++ before.piece;
+        cut = ap (λ (l : List ℕ). text ++ l) before.cut ∙ sym (append_assoc text before.piece k.0);
+        added = adds-more text before.piece first now new h before.added;
+      },
+    )
+
+pub adds-whole : (text : List ℕ) (first now : Option (List ℕ)) → Adds text first now → AddsPrefix text first now
+adds-whole text first now h = ([], record { piece = text; cut = sym (append-nil text); added = h })
+
+-- one more line is made
+leads-more : (h : List Event) (made : List (List ℕ)) (after : List Event) (text : List ℕ) (line : Line) (es : List Event) → Leads h made after → Says after text line → Tells after line es → Leads h (made ++ text ∷ []) (onto es after)
+leads-more h [] after text line es leads says tells =
+    (line, es, subst (λ (l : List Event). Says l text line) leads says, subst (λ (l : List Event). Tells l line es) leads tells, ap (onto es) leads)
+leads-more h (first ∷ made) after text line es leads says tells =
+    (leads.0, leads.1, leads.2, leads.3, leads-more (onto leads.1 h) made after text line es leads.4 says tells)
+
+none-subscribed-cond : (k n : ℕ) (c : List ℕ) (id : Id) (cur : CursorAt) (look : ℕ) (h : List Event) (b : Bool) → is_subscribed k (own 0 (onto (cond b (sends n c id cur look) []) h)) ≡ is_subscribed k (own 0 h)
+none-subscribed-cond k n c id cur look h true = refl
+none-subscribed-cond k n c id cur look h false = refl
+
+none-subscribed-sends : (k : ℕ) (c : List ℕ) (id : Id) (waiting : List Waiting) (h : List Event) → is_subscribed k (own 0 (onto (flat_map (sends_waiting c id) waiting) h)) ≡ is_subscribed k (own 0 h)
+none-subscribed-sends k c id [] h = refl
+none-subscribed-sends k c id (w ∷ waiting) h =
+    ap (λ (l : List Event). is_subscribed k (own 0 l)) (onto-append (sends_waiting c id w) (flat_map (sends_waiting c id) waiting) h)
+    ∙ none-subscribed-sends k c id waiting (onto (sends_waiting c id w) h)
+    ∙ none-subscribed-cond k w.k c id (cursor_of id) w.look h (is_past id w.from)
+
+or-comm : (a b : Bool) → (a || (b || false)) ≡ (b || a)
+or-comm true true = refl
+or-comm true false = refl
+or-comm false true = refl
+or-comm false false = refl
+
+among-more : (used : List ℕ) (n k : ℕ) (b : Bool) → is_among used k ≡ b → is_among (used ++ n ∷ []) k ≡ ((n == k) || b)
+among-more used n k b is = list_any-append (λ m. m == k) used (n ∷ []) ∙ or-comm (is_among used k) (n == k) ∙ ap (λ a. (n == k) || a) is
+
+subscribed-found : (k n : ℕ) (c : List ℕ) (look : ℕ) (found : Option Id) (g h : List Event) → g ≡ h → is_subscribed k (own 0 (onto (found_events n c look found ++ Quiet ∷ []) g)) ≡ is_subscribed k (own 0 h)
+subscribed-found k n c look None g h is = ap (λ (l : List Event). is_subscribed k (own 0 l)) is
+subscribed-found k n c look (Some id) g h is = ap (λ (l : List Event). is_subscribed k (own 0 l)) is
+
+-- the numbers that were used are those of the subscribers that there were
+used-after-line : (line : Line) (s : State) (used : List ℕ) (h : List Event) → ((k : ℕ) → is_among used k ≡ is_subscribed k (own 0 h)) → (k : ℕ) → is_among (used_after line used) k ≡ is_subscribed k (own 0 (onto (events_of line s) h))
+used-after-line (Clock t) s used h is k = is k
+used-after-line (Post c body) s used h is k =
+    let id = next_stamp c s in
+    let channel = channel_of c s.channels in
+    let g = Stored 0 c id 0 10 (s.clock + 3600) true (length channel.waiting) 0 s.posts None body ∷ h in
+    is k ∙ sym (none-subscribed-sends k c id channel.waiting g) ∙ sym (ap (λ (l : List Event). is_subscribed k (own 0 l)) (onto-append (flat_map (sends_waiting c id) channel.waiting) (Quiet ∷ []) g))
+used-after-line (Poll n c) s used h is k =
+    let found = first_id no_id (channel_of c s.channels).ids in
+    among-more used n k (is_subscribed k (own 0 h)) (is k) ∙ sym (subscribed-found k n c s.polls found (onto (begins n c no_id s.polls s.floor found) h) _ refl)
+
+made-start : (first : Option (List ℕ)) (text : List ℕ) → Made first first (lines_of text) start [] 2 text (length text)
+made-start first text = record {
+  h = [];
+  made = [];
+  cut = refl;
+  leads = refl;
+  stands = stands-start;
+  come = come-start;
+  among = λ k. refl;
+  counted = refl;
+  room = omega arith;
+  written = adds-nothing first;
+}
+
+-- the same by equal states and numbers
+pub made-as : (first now : Option (List ℕ)) (all : List (List ℕ)) (s t : State) (used later : List ℕ) (number : ℕ) (rest : List ℕ) (most : ℕ) → t ≡ s → later ≡ used → Made first now all s used number rest most → Made first now all t later number rest most
+made-as first now all s t used later number rest most is are made = rw (is, are) made
+
+pub made-begins : (first : Option (List ℕ)) (text : List ℕ) (s : State) (used : List ℕ) → s ≡ start → used ≡ [] → Made first first (lines_of text) s used 2 text (length text)
+made-begins first text s used is are = rw (is, are) (made-start first text)
+
+pub made-fits : (first now : Option (List ℕ)) (all : List (List ℕ)) (s : State) (used : List ℕ) (number : ℕ) (rest : List ℕ) (most : ℕ) → most ≤ 67108864 → Made first now all s used number rest most → Fits s
+made-fits first now all s used number rest most le made = come-fits s (length made.made) (omega (arith, made.room)) made.come
+
+within-limit : (text : List ℕ) (line : Line) → Spells text line → IsWithin line
+within-limit text (Clock t) spells = spells.2.within
+within-limit text (Post name body) spells = tt
+within-limit text (Poll k name) spells = tt
+
+not-false : (b : Bool) → not b ≡ true → b ≡ false
+not-false true h = absurd (true≢false (sym h))
+not-false false h = refl
+
+is-new : (used : List ℕ) (h : List Event) (line : Line) → ((k : ℕ) → is_among used k ≡ is_subscribed k (own 0 h)) → takes_new used line ≡ true → IsNew h line
+is-new used h (Clock t) among new = tt
+is-new used h (Post name body) among new = tt
+is-new used h (Poll k name) among new = sym (among k) ∙ not-false (is_among used k) new
+
+takes-new : (used : List ℕ) (h : List Event) (line : Line) → ((k : ℕ) → is_among used k ≡ is_subscribed k (own 0 h)) → IsNew h line → takes_new used line ≡ true
+takes-new used h (Clock t) among new = refl
+takes-new used h (Post name body) among new = refl
+takes-new used h (Poll k name) among new = rw (among k, new) refl
+
+length-snoc : (made : List (List ℕ)) (text : List ℕ) → length (made ++ text ∷ []) ≡ length made + 1
+length-snoc made text = length-append made (text ∷ [])
+
+-- a line was made and its events were written
+pub made-next : (first now new : Option (List ℕ)) (all : List (List ℕ)) (s : State) (used : List ℕ) (number : ℕ) (rest : List ℕ) (most : ℕ) (text behind : List ℕ) (line : Line) → most ≤ 67108864
+    → lines_of rest ≡ text ∷ lines_of behind → length behind < length rest → SaysNew used text line → Adds (lines_text (events_of line s)) now new
+    → Made first now all s used number rest most → Made first new all (after line s) (used_after line used) (number + 1) behind most
+made-next first now new all s used number rest most text behind line le cut shorter says written made =
+    let few : length made.made < 4294967295 = omega (arith, made.room) in
+    let fresh = is-new used made.h line made.among says.new in
+    let makes = makes-line s made.h line (length made.made) few made.stands made.come (within-limit text line says.spells) fresh in
+    let said : Says made.h text line = record { spells = says.spells; new = fresh } in
+    record {
+      h = onto (events_of line s) made.h;
+      made = made.made ++ text ∷ [];
+      cut = made.cut ∙ ap (λ (l : List (List ℕ)). made.made ++ l) cut ∙ sym (append_assoc made.made (text ∷ []) (lines_of behind));
+      leads = leads-more [] made.made made.h text line (events_of line s) made.leads said makes.tells;
+      stands = makes.stands;
+      come = subst (HasCome (after line s)) (sym (length-snoc made.made text)) makes.come;
+      among = used-after-line line s used made.h made.among;
+      counted = ap (λ n. n + 1) made.counted ∙ omega (arith, length-snoc made.made text);
+      room = omega (arith, length-snoc made.made text, made.room);
+      written = subst (λ (l : List ℕ). Adds l first new) (sym (text_grows (events_of line s) made.h)) (adds-more (text_of made.h) (lines_text (events_of line s)) first now new made.written written);
+    }
+
+-- no line is left
+pub made-whole : (first now : Option (List ℕ)) (all : List (List ℕ)) (s : State) (used : List ℕ) (number : ℕ) (rest : List ℕ) (most : ℕ) → length rest ≡ 0 → Made first now all s used number rest most → MakesAll all first now
+made-whole first now all s used number [] most end made = record {
+  h = made.h;
+  leads = subst (λ (l : List (List ℕ)). Leads [] l made.h) (sym (made.cut ∙ append-nil made.made)) made.leads;
+  lawful = good-lawful made.h made.stands.good;
+  written = made.written;
+}
+made-whole first now all s used number (b ∷ rest) most end made = absurd (omega arith)
+
+-- the next line is out of form
+pub made-fault : (first now : Option (List ℕ)) (all : List (List ℕ)) (s : State) (used : List ℕ) (number : ℕ) (rest : List ℕ) (most : ℕ) (text behind : List ℕ)
+    → lines_of rest ≡ text ∷ lines_of behind → ((line : Line) → SaysNew used text line → ⊥) → Made first now all s used number rest most → MakesUntil all first now number
+made-fault first now all s used number rest most text behind cut none made = record {
+  h = made.h;
+  made = made.made;
+  bad = text;
+  rest = lines_of behind;
+  cut = made.cut ∙ ap (λ (l : List (List ℕ)). made.made ++ l) cut;
+  leads = made.leads;
+  faulty = λ line says. none line (record { spells = says.spells; new = takes-new used made.h line made.among says.new });
+  counted = made.counted;
+  lawful = good-lawful made.h made.stands.good;
+  written = made.written;
+}
+
+-- the work stops between two lines
+pub made-some : (first now : Option (List ℕ)) (all : List (List ℕ)) (s : State) (used : List ℕ) (number : ℕ) (rest : List ℕ) (most : ℕ) → Made first now all s used number rest most → MakesSome all first now
+made-some first now all s used number rest most made = record {
+  h = made.h;
+  made = made.made;
+  rest = lines_of rest;
+  cut = made.cut;
+  leads = made.leads;
+  lawful = good-lawful made.h made.stands.good;
+  written = adds-whole (text_of made.h) first now made.written;
+}
+
+-- the work stops while the events of a line are written
+pub made-cut : (first now new : Option (List ℕ)) (all : List (List ℕ)) (s : State) (used : List ℕ) (number : ℕ) (rest : List ℕ) (most : ℕ) (text behind : List ℕ) (line : Line) → most ≤ 67108864
+    → lines_of rest ≡ text ∷ lines_of behind → SaysNew used text line → AddsPrefix (lines_text (events_of line s)) now new
+    → Made first now all s used number rest most → MakesSome all first new
+made-cut first now new all s used number rest most text behind line le cut says written made =
+    let few : length made.made < 4294967295 = omega (arith, made.room) in
+    let fresh = is-new used made.h line made.among says.new in
+    let makes = makes-line s made.h line (length made.made) few made.stands made.come (within-limit text line says.spells) fresh in
+    record {
+      h = onto (events_of line s) made.h;
+      made = made.made ++ text ∷ [];
+      rest = lines_of behind;
+      cut = made.cut ∙ ap (λ (l : List (List ℕ)). made.made ++ l) cut ∙ sym (append_assoc made.made (text ∷ []) (lines_of behind));
+      leads = leads-more [] made.made made.h text line (events_of line s) made.leads (record { spells = says.spells; new = fresh }) makes.tells;
+      lawful = good-lawful (onto (events_of line s) made.h) makes.stands.good;
+      written = subst (λ (l : List ℕ). AddsPrefix l first new) (sym (text_grows (events_of line s) made.h)) (adds-prefix (text_of made.h) (lines_text (events_of line s)) first now new made.written written);
+    }
+
+pub always-err : {T E : Type 0} (r : Result T E) (P : Type 0) → P → OnErr r P
+always-err (Ok x) P p = tt
+always-err (Err e) P p = p
+
+pub finds-none : {X : Type 0} (P : X → Type 0) (o : Option X) → Finds P o → o ≡ None → (x : X) → P x → ⊥
+finds-none P None h is = h
+finds-none P (Some y) h is = absurd (cc)
+
+pub finds-some : {X : Type 0} (P : X → Type 0) (o : Option X) (x : X) → Finds P o → o ≡ Some x → P x
+finds-some P None x h is = absurd (cc)
+finds-some P (Some y) x h is = let same : y ≡ x = cc in subst P same h
+
+-- the text that was written is that of the line's events
+pub text-made : (s : State) (line : Line) (events : List Event) (items slice : List ℕ) → events ≡ events_of line s → items ≡ lines_text events → slice ≡ items → slice ≡ lines_text (events_of line s)
+text-made s line events items slice events-are items-are slice-is = slice-is ∙ items-are ∙ ap lines_text events-are
+
+-- a line that takes a used number isn't admitted, and the text spells no other
+pub not-admitted : (used text : List ℕ) (line other : Line) → Spells text line → takes_new used line ≡ false → SaysNew used text other → ⊥
+not-admitted used text line other spells old says =
+    let same : other ≡ line = one_line text other line says.spells spells in
+    true≢false (sym says.new ∙ ap (takes_new used) same ∙ old)

@@ -1,0 +1,93 @@
+-- Each line leads from what the state stands for to what the state after it stands for, and tells its events.
+use Rattle.std.proofs.Common.{◌≡◌, ℕ, ◌+◌, ◌<◌, ◌≤◌, max, List, refl, ◌∙◌, arith, Option, Some, None}
+use Rattle.nc_types.specs.Id.{Id, no_id}
+use Rattle.nc_journal.specs.declared.event.Event.{Event}
+use Rattle.nc_journal.specs.History.{onto}
+use Rattle.nc_journal.specs.Stamp.{next_id}
+use Rattle.nc_journal.proofs.Standings.{absent-unless}
+use Rattle.nc_replay.specs.declared.engine.Channel.{Channel}
+use Rattle.nc_replay.specs.declared.engine.Waiting.{Waiting}
+use Rattle.nc_replay.specs.declared.line.Line.{Line}
+use Rattle.nc_replay.specs.declared.line.Line.TheVariants.{Clock, Post, Poll}
+use Rattle.nc_replay.specs.Told.{Tells, IsNew}
+use Rattle.nc_replay.specs.Machine.{State, start, events_of, after, next_stamp, channel_of, first_id, posted, polled, waiting_of, after_clock, after_post, after_poll, Fits}
+use Rattle.nc_replay.proofs.Channels.{channel-name, each-channel}
+use Rattle.nc_replay.proofs.Stand.{StandsFor, stands-quiet, stands-clock}
+use Rattle.nc_replay.proofs.Poll.{stands-poll, tells-poll}
+use Rattle.nc_replay.proofs.Post.{stands-post, tells-post}
+
+-- how far the numbers can have come after some lines
+pub record HasCome (s : State) (n : ℕ) : Type 0 where
+  pub clock : s.clock ≤ 4102444800
+  pub floor : s.floor ≤ 4102444800 + n
+  pub last : (c : List ℕ) → (channel_of c s.channels).last.time ≤ s.floor
+  pub posts : s.posts ≤ n
+  pub polls : s.polls ≤ n
+
+-- the clock of a line is within its limit
+abbrev pub IsWithin : Line → Type 0
+IsWithin (Clock t) = t ≤ 4102444800
+IsWithin _ = Unit {0}
+
+-- what a line makes of a state and a history
+pub record Makes (s : State) (h : List Event) (l : Line) (n : ℕ) : Type 0 where
+  pub tells : Tells h l (events_of l s)
+  pub stands : StandsFor (after l s) (onto (events_of l s) h)
+  pub come : HasCome (after l s) (n + 1)
+
+-- the time of the next stamp is at most one second past the clock and the floor
+stamp-time : (clock floor : ℕ) (last : Id) (n : ℕ) → clock ≤ 4102444800 → floor ≤ 4102444800 + n → last.time ≤ floor → (next_id (max clock floor) last).time ≤ 4102444800 + n + 1
+stamp-time clock floor last n clock-within floor-within last-within = grind arith
+
+come-clock : (t : ℕ) (s : State) (n : ℕ) → t ≤ 4102444800 → HasCome s n → HasCome (after_clock t s) (n + 1)
+come-clock t s n within come = record { clock = within; floor = omega (arith, come.floor); last = come.last; posts = omega (arith, come.posts); polls = omega (arith, come.polls) }
+
+come-post : (c : List ℕ) (s : State) (n : ℕ) → (next_stamp c s).time ≤ 4102444800 + n + 1 → HasCome s n → HasCome (after_post c s) (n + 1)
+come-post c s n time come = record {
+  clock = come.clock;
+  floor = floor-comes s.floor (next_stamp c s).time come.floor time;
+  last = each-channel (λ d x. x.last.time ≤ max s.floor (next_stamp c s).time) c (posted (next_stamp c s) (channel_of c s.channels)) s.channels (channel-name c s.channels) (omega arith) (λ d. omega (arith, come.last d));
+  posts = omega (arith, come.posts);
+  polls = omega (arith, come.polls);
+}
+  where
+    floor-comes : (floor time : ℕ) → floor ≤ 4102444800 + n → time ≤ 4102444800 + n + 1 → max floor time ≤ 4102444800 + (n + 1)
+    floor-comes floor time before now = omega arith
+
+same-last : (w : Waiting) (found : Option Id) (channel : Channel) → (polled w found channel).last ≡ channel.last
+same-last w None channel = refl
+same-last w (Some id) channel = refl
+
+same-name : (w : Waiting) (found : Option Id) (channel : Channel) → (polled w found channel).name ≡ channel.name
+same-name w None channel = refl
+same-name w (Some id) channel = refl
+
+come-poll : (k : ℕ) (c : List ℕ) (from : Id) (s : State) (n : ℕ) → HasCome s n → HasCome (after_poll k c from s) (n + 1)
+come-poll k c from s n come =
+    let channel = channel_of c s.channels in
+    let w = waiting_of k from s.polls in
+    let found = first_id from channel.ids in
+    record {
+      clock = come.clock;
+      floor = omega (arith, come.floor);
+      last = each-channel (λ d x. x.last.time ≤ s.floor) c (polled w found channel) s.channels (same-name w found channel ∙ channel-name c s.channels) (rw (same-last w found channel) (come.last c)) come.last;
+      posts = omega (arith, come.posts);
+      polls = omega (arith, come.polls);
+    }
+
+pub makes-line : (s : State) (h : List Event) (l : Line) (n : ℕ) → n < 4294967295 → StandsFor s h → HasCome s n → IsWithin l → IsNew h l → Makes s h l n
+makes-line s h (Clock t) n few stands come within new = record { tells = refl; stands = stands-quiet _ _ (stands-clock t s h stands); come = come-clock t s n within come }
+makes-line s h (Post c body) n few stands come within new =
+    let time = stamp-time s.clock s.floor (channel_of c s.channels).last n come.clock come.floor (come.last c) in
+    record { tells = tells-post c body s h stands; stands = stands-post c body s h (omega (arith, time)) stands; come = come-post c s n time come }
+makes-line s h (Poll k c) n few stands come within new = record {
+  tells = tells-poll k c no_id s h stands;
+  stands = stands-poll k c no_id s h stands (absent-unless k 0 h stands.good.standing new);
+  come = come-poll k c no_id s n come;
+}
+
+pub come-fits : (s : State) (n : ℕ) → n < 4294967295 → HasCome s n → Fits s
+come-fits s n few come = record { clock = come.clock; floor = omega (arith, come.floor); last = come.last; posts = omega (arith, come.posts); polls = omega (arith, come.polls) }
+
+pub come-start : HasCome start 0
+come-start = record { clock = omega arith; floor = omega arith; last = λ c. omega arith; posts = omega arith; polls = omega arith }

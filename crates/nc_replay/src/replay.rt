@@ -1,0 +1,129 @@
+//! The lines of a script are made one after the other, and the events of each are written once it is made.
+//!
+//! Below stand the reading of lines, the engine and the writing of texts; above stands the top call.
+ghost use Rattle.std.specs.Prelude.{◌≡◌, ◌≤◌, ◌⊎◌, length, IfOk, OnOk, OnErr, IsErrOf, IfNone, IfSome};
+ghost use Rattle.nc_journal.specs.Text.{lines_text};
+ghost use Rattle.nc_outside.specs.Fault.{HasRisen};
+ghost use Rattle.nc_replay.specs.Script.{lines_of, Finds};
+ghost use Rattle.nc_replay.specs.Machine.{Fits, events_of, after};
+ghost use Rattle.nc_replay.specs.Run.{is_among, takes_new, used_after, SaysNew, MakesAll, MakesUntil, MakesSome};
+ghost use Rattle.nc_replay.specs.declared.replay.Stop.TheVariants.{Sink as SinkStop, NoMemory as NoMemoryStop};
+
+use crate::engine::Engine;
+use crate::input::write_all;
+use crate::line::Line;
+use crate::script::{first_line, read_line, rest_after};
+use nc_journal::{EventList, put_lines};
+use nc_outside::{Failed, Sink};
+use nc_types::{MsgId, NoMemory};
+use std::alloc::{AllocError, Global};
+
+/// Why the making of lines stops before their end.
+#[derive(Clone, Copy, Debug, PartialEq, Eq)]
+pub enum Stop {
+    /// The sink failed or took nothing.
+    Sink,
+    /// There was no memory.
+    NoMemory,
+}
+
+impl From<Failed> for Stop {
+    ghost from_gives = { λ _ e. e ≡ SinkStop };
+
+    fn from(_: Failed) -> Self {
+        Stop::Sink
+    }
+}
+
+impl From<NoMemory> for Stop {
+    ghost from_gives = { λ _ e. e ≡ NoMemoryStop };
+
+    fn from(_: NoMemory) -> Self {
+        Stop::NoMemory
+    }
+}
+
+fn is_among(used: &[u64], k: u64) -> bool
+    ensures { result ≡ is_among used.now k }
+{
+    used.iter().any(|n| *n == k)
+}
+
+/// Whether a line takes no number of a subscriber that was used.
+fn takes_new(used: &[u64], line: &Line) -> bool
+    ensures { result ≡ takes_new used.now line.now }
+{
+    match line {
+        Line::Poll { k, .. } => !is_among(used, *k),
+        _ => true,
+    }
+}
+
+/// What a line says, where it is in form and takes no number that was used.
+fn admit(alloc: Global, used: &[u64], text: &[u8]) -> Result<Option<Line>, NoMemory>
+    ensures { IfOk result (Finds (SaysNew used.now text.now)) }
+{
+    let Some(line) = read_line(alloc, text)? else {
+        return Ok(None);
+    };
+    if takes_new(used, &line) {
+        Ok(Some(line))
+    } else {
+        Ok(None)
+    }
+}
+
+/// Makes a line, and gives its events.
+fn make(engine: &mut Engine, used: &mut Vec<u64>, line: Line) -> Result<EventList, NoMemory>
+    requires { Fits engine.old }
+    ensures events { IfOk result (λ done. done.events ≡ events_of line engine.old) }
+    ensures engine { OnOk result (engine.new ≡ after line engine.old) }
+    ensures used { OnOk result (used.new.items ≡ used_after line used.old.items) }
+{
+    match line {
+        Line::Clock { t } => engine.set_clock(t),
+        Line::Post { name, body } => engine.post(&name, body),
+        Line::Poll { k, name } => {
+            used.push(k)?;
+            engine.poll(k, &name, MsgId::NONE)
+        }
+    }
+}
+
+/// The text of some events.
+fn text_of(alloc: Global, done: &EventList) -> Result<Vec<u8>, NoMemory>
+    ensures { IfOk result (λ text. text.items ≡ lines_text done.now.events) }
+{
+    let mut text = Vec::new(alloc);
+    put_lines(alloc, &mut text, done.events.as_slice())?;
+    Ok(text)
+}
+
+/// Makes the lines of a text behind a script's first line, and writes the events of each.
+///
+/// It gives the number that the first line out of form has in the script, if one is.
+pub fn replay_lines<K: Sink>(alloc: Global, text: &[u8], out: &mut K) -> Result<Option<u64>, Stop>
+    requires { length text.now ≤ 67108864 }
+    ensures all { IfOk result (λ fault. IfNone fault (MakesAll (lines_of text.now) (K.taken out.old) (K.taken out.new))) }
+    ensures until { IfOk result (λ fault. IfSome fault (MakesUntil (lines_of text.now) (K.taken out.old) (K.taken out.new))) }
+    ensures some { OnErr result (MakesSome (lines_of text.now) (K.taken out.old) (K.taken out.new)) }
+    ensures cause { IsErrOf result SinkStop → HasRisen (K.faults out.old) (K.faults out.new) ⊎ HasRisen (K.refusals out.old) (K.refusals out.new) }
+    ensures counted { K.faults out.old ≤ K.faults out.new }
+    ensures refusals_counted { K.refusals out.old ≤ K.refusals out.new }
+{
+    let mut engine = Engine::new(alloc);
+    let mut used = Vec::new(alloc);
+    let mut rest = text;
+    let mut number = 2;
+    while rest.len() > 0 {
+        let Some(line) = admit(alloc, &used, first_line(rest))? else {
+            return Ok(Some(number));
+        };
+        let events = make(&mut engine, &mut used, line)?;
+        let lines = text_of(alloc, &events)?;
+        write_all(out, &lines)?;
+        rest = rest_after(rest);
+        number += 1;
+    }
+    Ok(None)
+}

@@ -1,0 +1,349 @@
+//! The top call: the journals of scripts, worked out by hand, and every end that a run can have.
+ghost use Rattle.std.specs.Prelude.{None, Some};
+
+use crate::tests::list_of;
+use crate::top;
+use nc_outside::{Failed, MemSink, MemSource, Sink, Source, SureSink, SureSource};
+use nc_types::{List, NoMemory};
+use std::alloc::Global;
+use std::test::Fail;
+
+fn words_of(alloc: Global, text: &str) -> Result<Vec<String>, NoMemory> {
+    let mut words = Vec::new(alloc);
+    for word in text.split_ascii_whitespace() {
+        words.push(String::from_str(alloc, word)?)?;
+    }
+    Ok(words)
+}
+
+/// The status of the command `replay`.
+fn replay<S: Source, K: Sink>(alloc: Global, input: &mut S, out: &mut K) -> Result<u8, NoMemory> {
+    let words = words_of(alloc, "replay")?;
+    Ok(top(alloc, &words, input, out))
+}
+
+/// The status of a script's replay, and the sink that it wrote to.
+fn replayed(alloc: Global, script: &str) -> Result<(u8, MemSink), NoMemory> {
+    let mut input = MemSource::new(list_of(alloc, script.as_bytes())?, List::new(alloc));
+    let mut out = MemSink::new(alloc, List::new(alloc));
+    let status = replay(alloc, &mut input, &mut out)?;
+    Ok((status, out))
+}
+
+/// A script that has no fault.
+const SCRIPT: &str = "---\nclock 0 100\npost 0 a \"x\"\npoll 0 1 a 0:-\n";
+
+const JOURNAL: &str = "\
+clock w=0 t=100
+quiet
+stored w=0 c=\"a\" id=100:0 slot=0 len=10 exp=3700 kept=1 members=0 from=0 r=0 ct=- body=\"x\"
+quiet
+subscribed w=0 k=1 conn=- list=\"a\" mode=direct start=0:- timeout=0 close=0
+started w=0 k=1 cur=0:-
+looked w=0 q=0 from=0 no=0 c=\"a\" after=0:- floor=100 found=100:0
+sent w=0 k=1 i=0 c=\"a\" id=100:0 cur=100:0 looks=0
+ended w=0 k=1 cause=answered
+quiet
+";
+
+/// Two who wait, and two posts of one second.
+const WAITING: &str = "\
+---
+clock 0 100
+poll 0 2 a 0:-
+poll 0 1 a 0:-
+post 0 a \"x\"
+post 0 a \"y\"
+poll 0 3 a 0:-";
+
+const WAITING_JOURNAL: &str = "\
+clock w=0 t=100
+quiet
+subscribed w=0 k=2 conn=- list=\"a\" mode=direct start=0:- timeout=0 close=0
+started w=0 k=2 cur=0:-
+looked w=0 q=0 from=0 no=0 c=\"a\" after=0:- floor=0 found=-
+quiet
+subscribed w=0 k=1 conn=- list=\"a\" mode=direct start=0:- timeout=0 close=0
+started w=0 k=1 cur=0:-
+looked w=0 q=1 from=0 no=1 c=\"a\" after=0:- floor=0 found=-
+quiet
+stored w=0 c=\"a\" id=100:0 slot=0 len=10 exp=3700 kept=1 members=2 from=0 r=0 ct=- body=\"x\"
+sent w=0 k=1 i=0 c=\"a\" id=100:0 cur=100:0 looks=1
+ended w=0 k=1 cause=answered
+sent w=0 k=2 i=0 c=\"a\" id=100:0 cur=100:0 looks=0
+ended w=0 k=2 cause=answered
+quiet
+stored w=0 c=\"a\" id=100:1 slot=0 len=10 exp=3700 kept=1 members=0 from=0 r=1 ct=- body=\"y\"
+quiet
+subscribed w=0 k=3 conn=- list=\"a\" mode=direct start=0:- timeout=0 close=0
+started w=0 k=3 cur=0:-
+looked w=0 q=2 from=0 no=2 c=\"a\" after=0:- floor=100 found=100:0
+sent w=0 k=3 i=0 c=\"a\" id=100:0 cur=100:0 looks=2
+ended w=0 k=3 cause=answered
+quiet
+";
+
+/// A clock that goes back, and two channels.
+const BACKWARD: &str = "\
+---
+clock 0 100
+post 0 a \"\"
+clock 0 90
+post 0 a \"x\"
+poll 0 65535 b 0:-
+post 0 a \"y\"
+post 0 b \"z\"
+";
+
+const BACKWARD_JOURNAL: &str = "\
+clock w=0 t=100
+quiet
+stored w=0 c=\"a\" id=100:0 slot=0 len=10 exp=3700 kept=1 members=0 from=0 r=0 ct=- body=\"\"
+quiet
+clock w=0 t=90
+quiet
+stored w=0 c=\"a\" id=100:1 slot=0 len=10 exp=3690 kept=1 members=0 from=0 r=1 ct=- body=\"x\"
+quiet
+subscribed w=0 k=65535 conn=- list=\"b\" mode=direct start=0:- timeout=0 close=0
+started w=0 k=65535 cur=0:-
+looked w=0 q=0 from=0 no=0 c=\"b\" after=0:- floor=100 found=-
+quiet
+stored w=0 c=\"a\" id=100:2 slot=0 len=10 exp=3690 kept=1 members=0 from=0 r=2 ct=- body=\"y\"
+quiet
+stored w=0 c=\"b\" id=100:0 slot=0 len=10 exp=3690 kept=1 members=1 from=0 r=3 ct=- body=\"z\"
+sent w=0 k=65535 i=0 c=\"b\" id=100:0 cur=100:0 looks=0
+ended w=0 k=65535 cause=answered
+quiet
+";
+
+#[test]
+fn journals(rt: HostRuntime) -> Result<(), Fail> {
+    for (script, journal) in [
+        (SCRIPT, JOURNAL),
+        (WAITING, WAITING_JOURNAL),
+        (BACKWARD, BACKWARD_JOURNAL),
+        ("---", ""),
+        ("---\n", ""),
+    ] {
+        let (status, out) = replayed(rt.alloc(), script)?;
+        assert_eq!(rt; status, 0, "{script}");
+        assert_eq!(rt; out.bytes(), journal.as_bytes(), "{script}");
+    }
+    Ok(())
+}
+
+/// The journal of a script that posts a body on a channel before any clock.
+fn one_post(alloc: Global, name: &str, body: &str) -> Result<String, NoMemory> {
+    let journal = format!(in alloc;
+        "stored w=0 c=\"{name}\" id=0:0 slot=0 len=10 exp=3600 kept=1 members=0 from=0 r=0 ct=- body=\"{body}\"\nquiet\n"
+    )?;
+    Ok(journal)
+}
+
+#[test]
+fn lengths(rt: HostRuntime) -> Result<(), Fail> {
+    let alloc = rt.alloc();
+    for (name, body, is_made) in [
+        (1, 65_536, true),
+        (1_024, 0, true),
+        (1_025, 1, false),
+        (1, 65_537, false),
+        (0, 1, false),
+    ] {
+        let name = "n".repeat(alloc, name)?;
+        let body = " ".repeat(alloc, body)?;
+        let script = format!(in alloc; "---\npost 0 {name} \"{body}\"")?;
+        let journal = one_post(alloc, &name, &body)?;
+        let want = if is_made {
+            (0, journal.as_str())
+        } else {
+            (3, "fault line=2\n")
+        };
+        let (status, out) = replayed(alloc, &script)?;
+        assert!(rt;
+            (status, out.bytes()) == (want.0, want.1.as_bytes()),
+            "{} and {}",
+            name.len(),
+            body.len()
+        );
+    }
+    Ok(())
+}
+
+#[test]
+fn first_lines(rt: HostRuntime) -> Result<(), Fail> {
+    for script in [
+        "",
+        "\n---",
+        "--",
+        "----",
+        "--- ",
+        " ---",
+        "---\r\n",
+        "# a\n---",
+        "clock 0 7\n",
+    ] {
+        let (status, out) = replayed(rt.alloc(), script)?;
+        assert_eq!(rt; status, 3, "{script}");
+        assert_eq!(rt; out.bytes(), b"fault line=1\n".as_slice(), "{script}");
+    }
+    Ok(())
+}
+
+#[test]
+fn faults(rt: HostRuntime) -> Result<(), Fail> {
+    let alloc = rt.alloc();
+    for line in [
+        "",
+        "# a",
+        "---",
+        "clock  0 7",
+        "clock 1 7",
+        "clock 0 7 ",
+        "clock 0 0000000000000000007",
+        "clock 0 4102444801",
+        "post 0 a-b \"x\"",
+        "post 0  \"x\"",
+        "post 0 a \"x\\n\"",
+        "post 0 a \"x",
+        "poll 0 65536 a 0:-",
+        "poll 0 2 a 0:0",
+        "poll 0 1 b 0:-",
+        "poll 0 001 a 0:-",
+    ] {
+        let script = format!(in alloc; "{SCRIPT}{line}\nclock 0 7\n")?;
+        let journal = format!(in alloc; "{JOURNAL}fault line=5\n")?;
+        let (status, out) = replayed(alloc, &script)?;
+        assert_eq!(rt; status, 3, "{line}");
+        assert_eq!(rt; out.bytes(), journal.as_bytes(), "{line}");
+    }
+    Ok(())
+}
+
+/// Gives at most 16 bytes at each read.
+#[derive(Drop)]
+struct Sips {
+    source: MemSource,
+}
+
+impl Source for Sips {
+    ghost use Rattle.nc_outside.specs.Memory.{bytes_left, reads};
+
+    ghost left = { λ s. Some (bytes_left s.source) };
+
+    ghost faults = { λ s. (reads s.source).faults };
+
+    fn read(&mut self, room: &mut [u8]) -> Result<usize, Failed> {
+        let most = room.len().min(16);
+        self.source.read(&mut room[..most])
+    }
+}
+
+#[test]
+fn failing_reads(rt: HostRuntime) -> Result<(), Fail> {
+    let alloc = rt.alloc();
+    for read in 0..5 {
+        let source = MemSource::new(list_of(alloc, SCRIPT.as_bytes())?, list_of(alloc, &[read])?);
+        let mut out = MemSink::new(alloc, List::new(alloc));
+        let status = replay(alloc, &mut Sips { source }, &mut out)?;
+        let want = if read < 4 { (4, "") } else { (0, JOURNAL) };
+        assert_eq!(rt; status, want.0, "at {read}");
+        assert_eq!(rt; out.bytes(), want.1.as_bytes(), "at {read}");
+    }
+    Ok(())
+}
+
+/// Fills each room, and has no end.
+#[derive(Drop)]
+struct Endless;
+
+impl Source for Endless {
+    ghost left = { λ _. None };
+
+    ghost faults = { λ _. 0 };
+
+    fn read(&mut self, room: &mut [u8]) -> Result<usize, Failed> {
+        Ok(room.len())
+    }
+}
+
+#[test]
+fn endless_input(rt: HostRuntime) -> Result<(), Fail> {
+    let alloc = rt.alloc();
+    let mut out = MemSink::new(alloc, List::new(alloc));
+    assert_eq!(rt; replay(alloc, &mut Endless, &mut out)?, 7);
+    assert!(rt; out.bytes().is_empty());
+    Ok(())
+}
+
+#[test]
+fn failing_writes(rt: HostRuntime) -> Result<(), Fail> {
+    let alloc = rt.alloc();
+    let script = format!(in alloc; "{SCRIPT}-")?;
+    let (_, whole) = replayed(alloc, &script)?;
+    for write in 0..5 {
+        let mut input = MemSource::new(list_of(alloc, script.as_bytes())?, List::new(alloc));
+        let mut out = MemSink::new(alloc, list_of(alloc, &[write])?);
+        let status = replay(alloc, &mut input, &mut out)?;
+        assert_eq!(rt; status, if write < 4 { 5 } else { 3 }, "at {write}");
+        assert_eq!(rt; out.bytes() == whole.bytes(), write == 4, "at {write}");
+        assert!(rt; whole.bytes().starts_with(out.bytes()), "at {write}");
+    }
+    Ok(())
+}
+
+/// Takes nothing, and counts that.
+#[derive(Drop)]
+struct Full {
+    refusals: u64,
+}
+
+impl Sink for Full {
+    ghost taken = { λ _. None };
+
+    ghost faults = { λ _. 0 };
+
+    ghost refusals = { λ s. s.refusals };
+
+    fn write(&mut self, piece: &[u8]) -> Result<usize, Failed> {
+        if !piece.is_empty() {
+            self.refusals = self.refusals.saturating_add(1);
+        }
+        Ok(0)
+    }
+}
+
+#[test]
+fn other_sinks(rt: HostRuntime) -> Result<(), Fail> {
+    let alloc = rt.alloc();
+    let mut input = SureSource::new(list_of(alloc, SCRIPT.as_bytes())?);
+    assert_eq!(rt; replay(alloc, &mut input, &mut SureSink::new())?, 0);
+    let mut input = SureSource::new(list_of(alloc, SCRIPT.as_bytes())?);
+    let mut full = Full { refusals: 0 };
+    assert_eq!(rt; replay(alloc, &mut input, &mut full)?, 5);
+    assert_eq!(rt; full.refusals, 1);
+    Ok(())
+}
+
+/// The status of these words over a script, and the sink that it wrote to, whose write of this number fails.
+fn run(alloc: Global, text: &str, failing: u64) -> Result<(u8, MemSink), NoMemory> {
+    let words = words_of(alloc, text)?;
+    let mut input = MemSource::new(list_of(alloc, SCRIPT.as_bytes())?, List::new(alloc));
+    let mut out = MemSink::new(alloc, list_of(alloc, &[failing])?);
+    let status = top(alloc, &words, &mut input, &mut out);
+    Ok((status, out))
+}
+
+#[test]
+fn usage(rt: HostRuntime) -> Result<(), Fail> {
+    let usage = "usage: nchan replay | check | load SEED SIZE | serve\n";
+    for words in ["", "replay x", "Replay", "check"] {
+        let (status, out) = run(rt.alloc(), words, 1)?;
+        assert_eq!(rt; status, 2, "{words}");
+        assert_eq!(rt; out.bytes(), usage.as_bytes(), "{words}");
+        let (status, out) = run(rt.alloc(), words, 0)?;
+        assert_eq!(rt; status, 5, "{words}");
+        assert!(rt; out.bytes().is_empty(), "{words}");
+    }
+    Ok(())
+}
