@@ -1,0 +1,24 @@
+//! The program `nchan`: it hands the words, standard input and standard output to the top call.
+//!
+//! Everything that matters is in `nc_replay` below; here stand the real source and sink and `main`.
+#![tactic(auto)]
+
+mod standard;
+
+use standard::{StdSink, StdSource};
+use std::env;
+use std::io;
+use std::process::ExitCode;
+
+fn main(rt: HostRuntime) -> io::Result<ExitCode> {
+    let alloc = rt.alloc();
+    let mut words = Vec::new(alloc);
+    for word in env::args(&rt)?.skip(1) {
+        words.push(word)?;
+    }
+    let mut input = StdSource::new(rt.reader());
+    let mut out = StdSink::new(io::writer(&rt));
+    Ok(ExitCode::from(nc_replay::top(
+        alloc, &words, &mut input, &mut out,
+    )))
+}
