@@ -6,9 +6,8 @@
 mod standard;
 
 use standard::{StdSink, StdSource};
-use std::env;
-use std::io;
 use std::process::ExitCode;
+use std::{env, io};
 
 fn main(rt: HostRuntime) -> io::Result<ExitCode> {
     let alloc = rt.alloc();
@@ -18,7 +17,5 @@ fn main(rt: HostRuntime) -> io::Result<ExitCode> {
     }
     let mut input = StdSource::new(rt.reader());
     let mut out = StdSink::new(io::writer(&rt));
-    Ok(ExitCode::from(nc_replay::top(
-        alloc, &words, &mut input, &mut out,
-    )))
+    Ok(ExitCode::from(nc_replay::top(alloc, &words, &mut input, &mut out)))
 }
