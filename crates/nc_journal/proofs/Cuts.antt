@@ -4,19 +4,23 @@ use Rattle.std.specs.List.{AllByRecursion}
 use Rattle.nc_journal.specs.History.{onto, AtEachCut}
 use Rattle.nc_journal.specs.declared.event.Event.{Event}
 
--- what holds at each cut of a history holds at each cut after one more event, where it holds at that event and each older cut keeps it
-pub cut-push : (P : List Event → Event → List Event → Type 0) (h : List Event) (e : Event) → AtEachCut P h → P [] e h → ((newer : List Event) (x : Event) (older : List Event) → h ≡ newer ++ x ∷ older → P newer x older → P (e ∷ newer) x older) → AtEachCut P (e ∷ h)
-cut-push P h e each here kept = go
+-- what holds at each cut of a history turns into something else by one more event, where that holds at the event and follows at each older cut
+pub cut-turn : (P Q : List Event → Event → List Event → Type 0) (h : List Event) (e : Event) → AtEachCut P h → Q [] e h → ((newer : List Event) (x : Event) (older : List Event) → h ≡ newer ++ x ∷ older → P newer x older → Q (e ∷ newer) x older) → AtEachCut Q (e ∷ h)
+cut-turn P Q h e each here turns = go
   where
-    go : (newer : List Event) (x : Event) (older : List Event) → e ∷ h ≡ newer ++ x ∷ older → P newer x older
+    go : (newer : List Event) (x : Event) (older : List Event) → e ∷ h ≡ newer ++ x ∷ older → Q newer x older
     go [] x older is =
         let same : e ≡ x = cc in
         let rest : h ≡ older = cc in
-        subst (λ (y : Event). P [] y older) same (subst (λ (l : List Event). P [] e l) rest here)
+        subst (λ (y : Event). Q [] y older) same (subst (λ (l : List Event). Q [] e l) rest here)
     go (y ∷ newer) x older is =
         let same : e ≡ y = cc in
         let rest : h ≡ newer ++ x ∷ older = cc in
-        subst (λ (z : Event). P (z ∷ newer) x older) same (kept newer x older rest (each newer x older rest))
+        subst (λ (z : Event). Q (z ∷ newer) x older) same (turns newer x older rest (each newer x older rest))
+
+-- what holds at each cut of a history holds at each cut after one more event, where it holds at that event and each older cut keeps it
+pub cut-push : (P : List Event → Event → List Event → Type 0) (h : List Event) (e : Event) → AtEachCut P h → P [] e h → ((newer : List Event) (x : Event) (older : List Event) → h ≡ newer ++ x ∷ older → P newer x older → P (e ∷ newer) x older) → AtEachCut P (e ∷ h)
+cut-push P h e each here kept = cut-turn P P h e each here kept
 
 -- a relation that follows at each cut holds at each cut
 pub cut-weaker : (P Q : List Event → Event → List Event → Type 0) (h : List Event) → ((newer : List Event) (x : Event) (older : List Event) → h ≡ newer ++ x ∷ older → P newer x older → Q newer x older) → AtEachCut P h → AtEachCut Q h

@@ -4,3 +4,4 @@ pub mod Buffers
 pub mod Rising
 pub mod TextLaws
 pub mod Standings
+pub mod Leavings

@@ -8,3 +8,4 @@ pub mod Word
 pub mod Field
 pub mod Line
 pub mod Text
+pub mod Leaving

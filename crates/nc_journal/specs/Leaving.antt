@@ -1,0 +1,80 @@
+-- The leaving rule: which message leaves its buffer, when, and why.
+use Rattle.std.specs.Prelude.{◌≡◌, ◌⊎◌, ℕ, ◌-◌, ◌<◌, ◌≤◌, Bool, true, false, not, List, [], ◌∷◌, ◌++◌, length, ◌==◌, ◌&&◌, nat_le, Option}
+use Rattle.std.specs.List.{AllByRecursion}
+use Rattle.nc_types.specs.Id.{Id}
+use Rattle.nc_journal.specs.History.{own, Along, AtEachCut}
+use Rattle.nc_journal.specs.Stamp.{clock_of}
+use Rattle.nc_journal.specs.Message.{Message, buffer}
+use Rattle.nc_journal.specs.declared.event.Event.{Event}
+use Rattle.nc_journal.specs.declared.event.Event.TheVariants.{Stored, Left, Looked, Edged, Joined, Parted, Freed, Removed}
+use Rattle.nc_journal.specs.declared.word.LeftCause.{LeftCause}
+use Rattle.nc_journal.specs.declared.word.LeftCause.TheVariants.{Length, Expired, Deleted, Spent}
+
+-- a message expires at a moment that it names; 0 is never
+abbrev pub is_expired : ℕ → Message → Bool
+is_expired now m = not (m.expires == 0) && nat_le m.expires now
+
+-- one of some messages has this id and slot, and is so
+abbrev pub HasMessage : (Message → Type 0) → List Message → Id → ℕ → Type 0
+HasMessage P [] id slot = ⊥
+HasMessage P (m ∷ rest) id slot = ((m.id ≡ id) × (m.slot ≡ slot) × P m) ⊎ HasMessage P rest id slot
+
+-- the first of some messages has this id and slot
+abbrev pub IsFirst : List Message → Id → ℕ → Type 0
+IsFirst [] id slot = ⊥
+IsFirst (m ∷ rest) id slot = (m.id ≡ id) × (m.slot ≡ slot)
+
+-- what may stand between a message that leaves by length and the one that it makes room for
+abbrev pub MakesWay : Event → Type 0
+MakesWay (Left w c id slot Length) = Unit {0}
+MakesWay (Freed w slot) = Unit {0}
+MakesWay _ = ⊥
+
+-- room is made for a message of length `len` on channel c: it is stored next, and more than len - 1 messages were buffered
+pub record MakesRoom (w : ℕ) (c : List ℕ) (newer older : List Event) : Type 0 where
+  pub after : List Event
+  pub id : Id
+  pub slot : ℕ
+  pub len : ℕ
+  pub exp : ℕ
+  pub kept : Bool
+  pub members : ℕ
+  pub from : ℕ
+  pub r : ℕ
+  pub ct : Option (List ℕ)
+  pub body : List ℕ
+  pub between : List Event
+  pub next : newer ≡ after ++ Stored w c id slot len exp kept members from r ct body ∷ between
+  pub way : AllByRecursion MakesWay (own w between)
+  pub full : len - 1 < length (buffer c older)
+
+-- why a message leaves: it has expired; or room is made and it is the first; the other causes come later
+abbrev pub LeavesBy : LeftCause → ℕ → List ℕ → Id → ℕ → List Event → List Event → Type 0
+LeavesBy Expired w c id slot newer older = HasMessage (λ m. is_expired (clock_of (own w older)) m ≡ true) (buffer c older) id slot
+LeavesBy Length w c id slot newer older = IsFirst (buffer c older) id slot × MakesRoom w c newer older
+LeavesBy Deleted w c id slot newer older = ⊥
+LeavesBy Spent w c id slot newer older = ⊥
+
+abbrev pub LeftAt : List Event → Event → List Event → Type 0
+LeftAt newer (Left w c id slot cause) older = LeavesBy cause w c id slot newer older
+LeftAt newer _ older = Unit {0}
+
+-- no message of a channel's buffer has expired
+abbrev pub NoneExpired : ℕ → List ℕ → List Event → Type 0
+NoneExpired w c h = AllByRecursion (λ m. is_expired (clock_of (own w h)) m ≡ false) (buffer c h)
+
+-- what an event on a channel finds there: nothing has expired; and after a stored event the buffer has at most its length
+abbrev pub FindsAt : List Event → Event → Type 0
+FindsAt h (Stored w c id slot len exp kept members from r ct body) =
+    NoneExpired w c h × (length (buffer c (Stored w c id slot len exp kept members from r ct body ∷ h)) ≤ len)
+FindsAt h (Looked w q from number c after floor found) = NoneExpired w c h
+FindsAt h (Edged w q from number k c floor last) = NoneExpired w c h
+FindsAt h (Joined w c from k) = NoneExpired w c h
+FindsAt h (Parted w c from k) = NoneExpired w c h
+FindsAt h (Removed w c last cause) = NoneExpired w c h
+FindsAt h _ = Unit {0}
+
+-- the leaving rule
+pub record IsLeavingRule (h : List Event) : Type 0 where
+  pub left : AtEachCut LeftAt h
+  pub finds : Along FindsAt h
