@@ -1,19 +1,23 @@
 -- A history whose messages go each to subscribers of one channel, and how it goes on.
-use Rattle.std.proofs.Common.{◌≡◌, ◌⊎◌, inl, inr, ℕ, ℤ, zero, suc, Bool, true, false, cond, ◌==◌, List, [], ◌∷◌, ◌++◌, refl, sym, subst, arith, Option, Some, slice_get, slice_set, negsuc}
+use Rattle.std.proofs.Common.{◌≡◌, ◌⊎◌, inl, inr, ℕ, ℤ, zero, suc, ◌<◌, Bool, true, false, cond, ◌==◌, ◌||◌, ◌&&◌, List, [], ◌∷◌, ◌++◌, length, refl, sym, ◌∙◌, subst, arith, Option, Some, slice_get, slice_set, negsuc, true≢false}
 use Rattle.std.specs.List.{AllByRecursion}
-use Rattle.nc_types.specs.Id.{Id, IsPast}
+use Rattle.std.proofs.lemmas.Bool.{cond_both}
+use Rattle.nc_types.specs.Id.{Id, IsPast, id_eq}
 use Rattle.nc_types.specs.Cursor.{CursorAt, cursor_id, cursor_of, moved}
 use Rattle.nc_types.specs.Channel.{owner_of, name_eq}
 use Rattle.std.specs.Cmp.Lexicographic.{same_text}
 use Rattle.nc_journal.specs.declared.event.Event.{Event}
 use Rattle.nc_journal.specs.declared.event.Event.TheVariants.{Stored, Left, Sent, Looked}
-use Rattle.nc_journal.specs.History.{own, AtEachCut}
+use Rattle.nc_journal.specs.declared.word.LeftCause.TheVariants.{Length}
+use Rattle.nc_journal.specs.History.{own, Along, AtEachCut}
 use Rattle.nc_journal.specs.Stamp.{StampedAt, IsStamped}
 use Rattle.nc_journal.specs.Message.{Message, message_of, published, buffer, is_gone, lets_go}
 use Rattle.nc_journal.specs.Standing.{Standing, stage_of, OrderedAt, IsStandingRule}
 use Rattle.nc_journal.specs.Sending.{HasId, IsSpared, RestsOnLook, IsSentFrom, SentAt, StartedAt, IsStartedLawfully, QuietAt, IsQuietRule}
+use Rattle.nc_journal.specs.Leaving.{IsFirst, MakesWay, LeftAt, FindsAt}
 use Rattle.nc_journal.specs.Lawful.{IsLawful}
-use Rattle.nc_journal.proofs.Cuts.{cut-push, cut-weaker, all-weaker, all-append}
+use Rattle.nc_journal.proofs.Cuts.{cut-push, cut-turn, cut-weaker, all-weaker, all-append}
+use Rattle.nc_journal.proofs.Leavings.{id_eq-same, past-irreflexive, left-more}
 use Rattle.nc_journal.proofs.Buffers.{IsBeside, published-push, published-append, buffer-in, has-append-left, has-append-right}
 use Rattle.nc_journal.proofs.Rising.{stored-past}
 
@@ -40,33 +44,61 @@ abbrev pub SentToOneAt : List Event → Event → List Event → Type 0
 SentToOneAt newer (Sent w k i c id cur looks) older = SentToOne newer older w k i c id cur looks
 SentToOneAt newer _ older = Unit {0}
 
--- nothing leaves, and everything is kept
-abbrev pub Keeps : Event → Type 0
-Keeps (Stored w c id slot len exp kept members from r ct body) = kept ≡ true
-Keeps (Left w c id slot cause) = ⊥
-Keeps _ = Unit {0}
+-- what leaves was published, and everything that is stored is kept
+abbrev pub Keeps : List Event → Event → Type 0
+Keeps h (Stored w c id slot len exp kept members from r ct body) = kept ≡ true
+Keeps h (Left w c id slot cause) = HasId (published c h) id
+Keeps h _ = Unit {0}
 
-pub record IsGood (h : List Event) : Type 0 where
+-- a good history, but for how messages leave: at each cut they are in this relation
+pub record IsGoodBut (P : List Event → Event → List Event → Type 0) (h : List Event) : Type 0 where
   pub stamped : IsStamped 1 h
   pub standing : IsStandingRule h
   pub sent : AtEachCut SentToOneAt h
   pub started : IsStartedLawfully h
   pub quiet : IsQuietRule h
-  pub whole : (c : List ℕ) (id : Id) → is_gone c id h ≡ false
+  pub gone : (c : List ℕ) (id : Id) → is_gone c id h ≡ true → HasId (published c h) id
+  pub left : AtEachCut P h
+  pub finds : Along FindsAt h
+
+abbrev pub IsGood : List Event → Type 0
+IsGood h = IsGoodBut LeftAt h
 
 -- what the next event has to keep
-pub record IsNext (h : List Event) (e : Event) : Type 0 where
+pub record IsNextBut (P : List Event → Event → List Event → Type 0) (h : List Event) (e : Event) : Type 0 where
   pub stamped : StampedAt 1 h e
   pub ordered : OrderedAt h e
   pub sent : SentToOneAt [] e h
   pub started : StartedAt h e
   pub quiet : QuietAt h e
-  pub keeps : Keeps e
+  pub keeps : Keeps h e
+  pub left : P [] e h
+  pub finds : FindsAt h e
 
-lets-nothing-go : (c : List ℕ) (id : Id) (e : Event) → Keeps e → lets_go c id e ≡ false
-lets-nothing-go c id (Stored w d m slot len exp kept members from r ct body) h = rw h refl
-lets-nothing-go c id (Left w d m slot cause) h = absurd h
-lets-nothing-go c id _ h = refl
+abbrev pub IsNext : List Event → Event → Type 0
+IsNext h e = IsNextBut LeftAt h e
+
+or-true : (a b : Bool) → (a || b) ≡ true → (a ≡ true) ⊎ (b ≡ true)
+or-true true b is = inl refl
+or-true false b is = inr is
+
+-- what an event lets go was published
+lets-go-published : (c : List ℕ) (id : Id) (e : Event) (h : List Event) → Keeps h e → lets_go c id e ≡ true → HasId (published c h) id
+lets-go-published c id (Stored w d m slot len exp kept members from r ct body) h keeps is = absurd (true≢false (sym is ∙ rw keeps refl))
+lets-go-published c id (Left w d m slot cause) h keeps is = by_name (name_eq d c) refl is
+  where
+    by_name : (b : Bool) → name_eq d c ≡ b → (b && id_eq m id) ≡ true → HasId (published c h) id
+    by_name true same is = subst (HasId (published c h)) (id_eq-same m id is) (subst (λ n. HasId (published n h) m) (same_text d c (sym same)) keeps)
+    by_name false other is = absurd (true≢false (sym is))
+lets-go-published c id e h keeps is = absurd (true≢false (sym is))
+
+gone-published : (c : List ℕ) (id : Id) (e : Event) (h : List Event) → Keeps h e → (is_gone c id h ≡ true → HasId (published c h) id) → is_gone c id (e ∷ h) ≡ true → HasId (published c (e ∷ h)) id
+gone-published c id e h keeps before is =
+    subst (λ ms. HasId ms id) (sym (published-push c e h)) (has-append-left (published c h) (published c (e ∷ [])) id (by_either (or-true (lets_go c id e) (is_gone c id h) is)))
+  where
+    by_either : (lets_go c id e ≡ true) ⊎ (is_gone c id h ≡ true) → HasId (published c h) id
+    by_either (inl now) = lets-go-published c id e h keeps now
+    by_either (inr earlier) = before earlier
 
 -- the sent message of a channel was published before
 sent-published : (newer older : List Event) (w k i : ℕ) (c : List ℕ) (id : Id) (cur : CursorAt) (looks : List ℕ) → SentToOne newer older w k i c id cur looks → HasId (published c older) id
@@ -116,15 +148,88 @@ sent-goes-on h e stamped at newer (Sent w k i c id cur looks) older is sent =
     }
 sent-goes-on h e stamped at newer _ older is sent = tt
 
-pub good-push : (h : List Event) (e : Event) → IsGood h → IsNext h e → IsGood (e ∷ h)
-good-push h e good next = record {
+-- a good history goes on, where the cuts so far turn from one relation into another
+pub good-turn : (P Q : List Event → Event → List Event → Type 0) (h : List Event) (e : Event) → IsGoodBut P h → IsNextBut Q h e
+    → ((newer : List Event) (x : Event) (older : List Event) → h ≡ newer ++ x ∷ older → P newer x older → Q (e ∷ newer) x older) → IsGoodBut Q (e ∷ h)
+good-turn P Q h e good next turns = record {
   stamped = (good.stamped, next.stamped);
   standing = (good.standing, next.ordered);
   sent = cut-push SentToOneAt h e good.sent next.sent (sent-goes-on h e good.stamped next.stamped);
   started = (good.started, next.started);
   quiet = (good.quiet, next.quiet);
-  whole = λ c id. rw (lets-nothing-go c id e next.keeps) (good.whole c id);
+  gone = λ c id. gone-published c id e h next.keeps (good.gone c id);
+  left = cut-turn P Q h e good.left next.left turns;
+  finds = (good.finds, next.finds);
 }
+
+pub good-push : (h : List Event) (e : Event) → IsGood h → IsNext h e → IsGood (e ∷ h)
+good-push h e good next = good-turn LeftAt LeftAt h e good next (λ newer x older is at. left-more e newer x older at)
+
+-- a message leaves by length as room is made for one that is to be stored next on channel c
+abbrev pub Clearing : List ℕ → List Event → Event → List Event → Type 0
+Clearing c newer (Left w d id slot Length) older = (w ≡ 0) × (d ≡ c) × IsFirst (buffer d older) id slot × (9 < length (buffer d older)) × AllByRecursion MakesWay (own w newer)
+Clearing c newer _ older = ⊥
+
+-- a message left by the rule, or room is made
+abbrev pub LeavesOrClears : List ℕ → List Event → Event → List Event → Type 0
+LeavesOrClears c newer x older = LeftAt newer x older ⊎ Clearing c newer x older
+
+clearing-more : (c : List ℕ) (id : Id) (slot : ℕ) (newer : List Event) (x : Event) (older : List Event) → Clearing c newer x older → Clearing c (Left 0 c id slot Length ∷ newer) x older
+clearing-more c id slot newer (Left w d m place Length) older at = (at.0, at.1, at.2, at.3, cond_both (w == 0) (Left 0 c id slot Length ∷ own w newer) (own w newer) (AllByRecursion MakesWay) (λ _. (tt, at.4)) (λ _. at.4))
+clearing-more c id slot newer x older at = absurd at
+
+pub clears-more : (c : List ℕ) (id : Id) (slot : ℕ) (newer : List Event) (x : Event) (older : List Event) → LeavesOrClears c newer x older → LeavesOrClears c (Left 0 c id slot Length ∷ newer) x older
+clears-more c id slot newer x older (inl at) = inl (left-more (Left 0 c id slot Length) newer x older at)
+clears-more c id slot newer x older (inr at) = inr (clearing-more c id slot newer x older at)
+
+-- once the message is stored that room was made for, those that made it have left by the rule
+cleared : (c : List ℕ) (id : Id) (slot exp : ℕ) (kept : Bool) (members from r : ℕ) (ct : Option (List ℕ)) (body : List ℕ) (newer : List Event) (x : Event) (older : List Event) → Clearing c newer x older → LeftAt (Stored 0 c id slot 10 exp kept members from r ct body ∷ newer) x older
+cleared c id slot exp kept members from r ct body newer (Left w d m place Length) older at = (
+  at.2,
+  record {
+    after = [];
+    id = id;
+    slot = slot;
+    len = 10;
+    exp = exp;
+    kept = kept;
+    members = members;
+    from = from;
+    r = r;
+    ct = ct;
+    body = body;
+    between = newer;
+    next = rw (at.0, at.1) refl;
+    way = at.4;
+    full = at.3;
+  },
+)
+cleared c id slot exp kept members from r ct body newer x older at = absurd at
+
+pub left-cleared : (c : List ℕ) (id : Id) (slot exp : ℕ) (kept : Bool) (members from r : ℕ) (ct : Option (List ℕ)) (body : List ℕ) (newer : List Event) (x : Event) (older : List Event) → LeavesOrClears c newer x older → LeftAt (Stored 0 c id slot 10 exp kept members from r ct body ∷ newer) x older
+left-cleared c id slot exp kept members from r ct body newer x older (inl at) = left-more (Stored 0 c id slot 10 exp kept members from r ct body) newer x older at
+left-cleared c id slot exp kept members from r ct body newer x older (inr at) = cleared c id slot exp kept members from r ct body newer x older at
+
+-- a good history is good but for what clears
+pub good-clears : (c : List ℕ) (h : List Event) → IsGood h → IsGoodBut (LeavesOrClears c) h
+good-clears c h good = record {
+  stamped = good.stamped;
+  standing = good.standing;
+  sent = good.sent;
+  started = good.started;
+  quiet = good.quiet;
+  gone = good.gone;
+  left = cut-weaker LeftAt (LeavesOrClears c) h (λ newer x older is at. inl at) good.left;
+  finds = good.finds;
+}
+
+-- an id past all that were published isn't gone
+pub fresh-stays : (P : List Event → Event → List Event → Type 0) (c : List ℕ) (id : Id) (h : List Event) → IsGoodBut P h → AllByRecursion (λ m. IsPast id m.id) (published c h) → is_gone c id h ≡ false
+fresh-stays P c id h good past = by_test (is_gone c id h) refl
+  where
+    by_test : (b : Bool) → is_gone c id h ≡ b → b ≡ false
+    by_test true is = absurd (past-irreflexive id (has-all (λ old. IsPast id old) (published c h) id past (good.gone c id is)))
+    by_test false is = refl
 
 abbrev cursor_at : ℕ → List ℤ → CursorAt
 cursor_at t tags = record { time = t; tags = tags }
@@ -181,6 +286,7 @@ sent-at newer _ older h = tt
 pub good-lawful : (h : List Event) → IsGood h → IsLawful 1 h
 good-lawful h good = record {
   stamped = good.stamped;
+  leaving = record { left = good.left; finds = good.finds };
   standing = good.standing;
   sent = cut-weaker SentToOneAt (SentAt 1) h (λ newer x older is sent. sent-at newer x older sent) good.sent;
   started = good.started;
@@ -194,7 +300,9 @@ good-start = record {
   sent = λ newer x older is. absurd (none-cut newer x older is);
   started = tt;
   quiet = tt;
-  whole = λ c id. refl;
+  gone = λ c id is. absurd (true≢false (sym is));
+  left = λ newer x older is. absurd (none-cut newer x older is);
+  finds = tt;
 }
   where
     none-cut : (newer : List Event) (x : Event) (older : List Event) → (let none : List Event = [] in none) ≡ newer ++ x ∷ older → ⊥

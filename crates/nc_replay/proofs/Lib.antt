@@ -2,10 +2,15 @@ pub mod Cuts
 pub mod Spelled
 pub mod Flows
 pub mod Channels
+pub mod Put
+pub mod Leaves
+pub mod Calls
 pub mod Good
+pub mod Room
 pub mod Stand
 pub mod Poll
 pub mod Post
+pub mod Reap
 pub mod Step
 pub mod Loop
 pub mod Ends

@@ -1,5 +1,5 @@
 -- What is known between two lines of a script while they are made.
-use Rattle.std.proofs.Common.{◌≡◌, ℕ, ◌+◌, ◌<◌, ◌≤◌, Bool, true, false, not, cond, ◌==◌, ◌||◌, List, [], ◌∷◌, ◌++◌, length, refl, sym, ◌∙◌, subst, ap, arith, Option, Some, None, Result, Ok, Err, append_assoc, length-append, true≢false}
+use Rattle.std.proofs.Common.{◌≡◌, ℕ, ◌+◌, ◌<◌, ◌≤◌, Bool, true, false, not, cond, ◌==◌, ◌||◌, List, [], ◌∷◌, ◌++◌, length, map, refl, sym, ◌∙◌, subst, ap, arith, Option, Some, None, Result, Ok, Err, append_assoc, length-append, true≢false}
 use Rattle.std.specs.Prelude.{OnErr}
 use Rattle.std.specs.List.{flat_map}
 use Rattle.std.proofs.lemmas.List.{append-nil}
@@ -9,16 +9,20 @@ use Rattle.nc_journal.specs.declared.event.Event.{Event}
 use Rattle.nc_journal.specs.History.{own, onto}
 use Rattle.nc_journal.specs.Standing.{is_subscribed}
 use Rattle.nc_journal.specs.Text.{text_of, lines_text}
-use Rattle.nc_journal.specs.declared.event.Event.TheVariants.{Stored, Quiet}
+use Rattle.nc_journal.specs.declared.event.Event.TheVariants.{Stored, Looked, Quiet}
+use Rattle.nc_journal.specs.declared.word.LeftCause.{LeftCause}
+use Rattle.nc_journal.specs.declared.word.LeftCause.TheVariants.{Length, Expired}
+use Rattle.nc_buffer.specs.declared.entry.Entry.{Entry}
+use Rattle.nc_replay.specs.declared.engine.Channel.{Channel}
 use Rattle.nc_journal.proofs.Cuts.{onto-append}
 use Rattle.nc_journal.proofs.TextLaws.{text_grows}
 use Rattle.nc_types.specs.Cursor.{CursorAt, cursor_of}
 use Rattle.nc_replay.specs.declared.engine.Waiting.{Waiting}
 use Rattle.nc_replay.specs.declared.line.Line.{Line}
-use Rattle.nc_replay.specs.declared.line.Line.TheVariants.{Clock, Post, Poll}
+use Rattle.nc_replay.specs.declared.line.Line.TheVariants.{Clock, Reap, Post, Poll}
 use Rattle.nc_replay.specs.Script.{lines_of, Spells, Finds}
 use Rattle.nc_replay.specs.Told.{Says, Tells, Leads, IsNew, sends}
-use Rattle.nc_replay.specs.Machine.{State, start, events_of, after, Fits, sends_waiting, first_id, channel_of, next_stamp, found_events, begins}
+use Rattle.nc_replay.specs.Machine.{State, start, events_of, after, Fits, sends_waiting, entry_left, expired_of, staying_of, surplus_of, channel_left, first_id, channel_of, next_stamp, found_events, begins}
 use Rattle.nc_replay.specs.Input.{Adds, AddsPrefix}
 use Rattle.nc_replay.specs.Run.{is_among, takes_new, used_after, SaysNew, MakesAll, MakesUntil, MakesSome}
 use Rattle.nc_replay.proofs.Spelled.{one_line}
@@ -88,21 +92,52 @@ or-comm false false = refl
 among-more : (used : List ℕ) (n k : ℕ) (b : Bool) → is_among used k ≡ b → is_among (used ++ n ∷ []) k ≡ ((n == k) || b)
 among-more used n k b is = list_any-append (λ m. m == k) used (n ∷ []) ∙ or-comm (is_among used k) (n == k) ∙ ap (λ a. (n == k) || a) is
 
-subscribed-found : (k n : ℕ) (c : List ℕ) (look : ℕ) (found : Option Id) (g h : List Event) → g ≡ h → is_subscribed k (own 0 (onto (found_events n c look found ++ Quiet ∷ []) g)) ≡ is_subscribed k (own 0 h)
-subscribed-found k n c look None g h is = ap (λ (l : List Event). is_subscribed k (own 0 l)) is
-subscribed-found k n c look (Some id) g h is = ap (λ (l : List Event). is_subscribed k (own 0 l)) is
+subscribed-found : (k n : ℕ) (c : List ℕ) (look : ℕ) (found : Option Id) (h : List Event) → is_subscribed k (own 0 (onto (found_events n c look found) h)) ≡ is_subscribed k (own 0 h)
+subscribed-found k n c look None h = refl
+subscribed-found k n c look (Some id) h = refl
+
+none-subscribed-left : (k : ℕ) (c : List ℕ) (cause : LeftCause) (es : List Entry) (h : List Event) → is_subscribed k (own 0 (onto (map (entry_left c cause) es) h)) ≡ is_subscribed k (own 0 h)
+none-subscribed-left k c cause [] h = refl
+none-subscribed-left k c cause (e ∷ es) h = none-subscribed-left k c cause es (entry_left c cause e ∷ h)
+
+none-subscribed-reap : (k now : ℕ) (channels : List Channel) (h : List Event) → is_subscribed k (own 0 (onto (flat_map (channel_left now) channels) h)) ≡ is_subscribed k (own 0 h)
+none-subscribed-reap k now [] h = refl
+none-subscribed-reap k now (x ∷ channels) h =
+    ap (λ (l : List Event). is_subscribed k (own 0 l)) (onto-append (channel_left now x) (flat_map (channel_left now) channels) h)
+    ∙ none-subscribed-reap k now channels (onto (channel_left now x) h)
+    ∙ none-subscribed-left k x.name Expired (expired_of now x.buffer) h
 
 -- the numbers that were used are those of the subscribers that there were
 used-after-line : (line : Line) (s : State) (used : List ℕ) (h : List Event) → ((k : ℕ) → is_among used k ≡ is_subscribed k (own 0 h)) → (k : ℕ) → is_among (used_after line used) k ≡ is_subscribed k (own 0 (onto (events_of line s) h))
 used-after-line (Clock t) s used h is k = is k
+used-after-line Reap s used h is k =
+    is k ∙ sym (ap (λ (l : List Event). is_subscribed k (own 0 l)) (onto-append (flat_map (channel_left s.clock) s.channels) (Quiet ∷ []) h) ∙ none-subscribed-reap k s.clock s.channels h)
 used-after-line (Post c body) s used h is k =
     let id = next_stamp c s in
     let channel = channel_of c s.channels in
-    let g = Stored 0 c id 0 10 (s.clock + 3600) true (length channel.waiting) 0 s.posts None body ∷ h in
-    is k ∙ sym (none-subscribed-sends k c id channel.waiting g) ∙ sym (ap (λ (l : List Event). is_subscribed k (own 0 l)) (onto-append (flat_map (sends_waiting c id) channel.waiting) (Quiet ∷ []) g))
+    let staying = staying_of s.clock channel.buffer in
+    let left = map (entry_left c Expired) (expired_of s.clock channel.buffer) in
+    let room = map (entry_left c Length) (surplus_of 10 staying) in
+    let stored = Stored 0 c id 0 10 (s.clock + 3600) true (length channel.waiting) 0 s.posts None body in
+    let sent = flat_map (sends_waiting c id) channel.waiting in
+    is k ∙ sym
+    (ap (λ (l : List Event). is_subscribed k (own 0 l)) (onto-append (left ++ room ++ stored ∷ sent) (Quiet ∷ []) h)
+    ∙ ap (λ (l : List Event). is_subscribed k (own 0 l)) (onto-append (left ++ room) (stored ∷ sent) h)
+    ∙ none-subscribed-sends k c id channel.waiting (stored ∷ onto (left ++ room) h)
+    ∙ ap (λ (l : List Event). is_subscribed k (own 0 l)) (onto-append left room h)
+    ∙ none-subscribed-left k c Length (surplus_of 10 staying) (onto left h)
+    ∙ none-subscribed-left k c Expired (expired_of s.clock channel.buffer) h)
 used-after-line (Poll n c) s used h is k =
-    let found = first_id no_id (channel_of c s.channels).ids in
-    among-more used n k (is_subscribed k (own 0 h)) (is k) ∙ sym (subscribed-found k n c s.polls found (onto (begins n c no_id s.polls s.floor found) h) _ refl)
+    let channel = channel_of c s.channels in
+    let found = first_id no_id (staying_of s.clock channel.buffer) in
+    let left = map (entry_left c Expired) (expired_of s.clock channel.buffer) in
+    let look = Looked 0 s.polls 0 s.polls c no_id s.floor found in
+    let begun = onto (begins n c no_id) h in
+    among-more used n k (is_subscribed k (own 0 h)) (is k) ∙ sym
+    (ap (λ (l : List Event). is_subscribed k (own 0 l)) (onto-append (left ++ look ∷ found_events n c s.polls found) (Quiet ∷ []) begun)
+    ∙ ap (λ (l : List Event). is_subscribed k (own 0 l)) (onto-append left (look ∷ found_events n c s.polls found) begun)
+    ∙ subscribed-found k n c s.polls found (look ∷ onto left begun)
+    ∙ none-subscribed-left k c Expired (expired_of s.clock channel.buffer) begun)
 
 made-start : (first : Option (List ℕ)) (text : List ℕ) → Made first first (lines_of text) start [] 2 text (length text)
 made-start first text = record {
@@ -126,10 +161,11 @@ pub made-begins : (first : Option (List ℕ)) (text : List ℕ) (s : State) (use
 made-begins first text s used is are = rw (is, are) (made-start first text)
 
 pub made-fits : (first now : Option (List ℕ)) (all : List (List ℕ)) (s : State) (used : List ℕ) (number : ℕ) (rest : List ℕ) (most : ℕ) → most ≤ 67108864 → Made first now all s used number rest most → Fits s
-made-fits first now all s used number rest most le made = come-fits s (length made.made) (omega (arith, made.room)) made.come
+made-fits first now all s used number rest most le made = come-fits s made.h (length made.made) (omega (arith, made.room)) made.stands made.come
 
 within-limit : (text : List ℕ) (line : Line) → Spells text line → IsWithin line
 within-limit text (Clock t) spells = spells.2.within
+within-limit text Reap spells = tt
 within-limit text (Post name body) spells = tt
 within-limit text (Poll k name) spells = tt
 
@@ -139,11 +175,13 @@ not-false false h = refl
 
 is-new : (used : List ℕ) (h : List Event) (line : Line) → ((k : ℕ) → is_among used k ≡ is_subscribed k (own 0 h)) → takes_new used line ≡ true → IsNew h line
 is-new used h (Clock t) among new = tt
+is-new used h Reap among new = tt
 is-new used h (Post name body) among new = tt
 is-new used h (Poll k name) among new = sym (among k) ∙ not-false (is_among used k) new
 
 takes-new : (used : List ℕ) (h : List Event) (line : Line) → ((k : ℕ) → is_among used k ≡ is_subscribed k (own 0 h)) → IsNew h line → takes_new used line ≡ true
 takes-new used h (Clock t) among new = refl
+takes-new used h Reap among new = refl
 takes-new used h (Post name body) among new = refl
 takes-new used h (Poll k name) among new = rw (among k, new) refl
 

@@ -1,29 +1,34 @@
 -- A post leads from what the engine's state stands for to what the state after it stands for, and tells its events.
-use Rattle.std.proofs.Common.{◌≡◌, ◌⊎◌, inl, inr, ℕ, ◌+◌, ◌<◌, Bool, true, false, cond, not, max, ◌==◌, ◌||◌, List, [], ◌∷◌, ◌++◌, filter, length, refl, sym, ◌∙◌, subst, ap, arith, None, eq-eqb, true≢false}
+use Rattle.std.proofs.Common.{◌≡◌, ◌⊎◌, inl, inr, ℕ, ◌+◌, ◌-◌, ◌<◌, ◌≤◌, Bool, true, false, cond, not, max, ◌==◌, ◌||◌, List, [], ◌∷◌, ◌++◌, map, filter, take, drop, length, refl, sym, ◌∙◌, subst, ap, arith, None, eq-eqb, true≢false}
 use Rattle.std.specs.List.{AllByRecursion, flat_map}
 use Rattle.std.proofs.lemmas.Bool.{eqb-true, cond_both, false_from_ne_true}
-use Rattle.std.proofs.lemmas.List.{length-map, map-append}
+use Rattle.std.proofs.lemmas.List.{length-map, length-append, map-append, take-map, drop-map}
 use Rattle.nc_types.specs.Id.{Id, IsTime, IsPast, is_past}
 use Rattle.nc_types.specs.Cursor.{CursorAt, cursor_of}
 use Rattle.nc_types.specs.Channel.{name_eq}
 use Rattle.nc_journal.specs.declared.word.EndedCause.TheVariants.{Answered}
+use Rattle.nc_journal.specs.declared.word.LeftCause.TheVariants.{Length, Expired}
 use Rattle.nc_journal.specs.declared.event.Event.{Event}
 use Rattle.nc_journal.specs.declared.event.Event.TheVariants.{Stored, Looked, Sent, Ended, Quiet}
 use Rattle.nc_journal.specs.History.{own, onto}
-use Rattle.nc_journal.specs.Stamp.{clock_of, floor_of, last_of, stamp, next_id}
+use Rattle.nc_journal.specs.Stamp.{clock_of, floor_of, last_of, stamp, next_id, IsStamp}
 use Rattle.nc_journal.specs.Message.{Message, message_of, published, buffer, lets_go, is_gone}
 use Rattle.nc_journal.specs.Standing.{Stage, Absent, Starting, Standing, Served, Over, stage_of, served}
 use Rattle.nc_journal.specs.Sending.{HasId}
 use Rattle.nc_journal.proofs.Cuts.{onto-append, all-weaker, all-append}
 use Rattle.nc_journal.proofs.Ids.{past_of_test, not_past_of_test}
-use Rattle.nc_journal.proofs.Buffers.{IsBeside, published-append, buffer-whole, has-append-right}
+use Rattle.nc_journal.proofs.Buffers.{IsBeside, published-append, has-append-right}
+use Rattle.nc_journal.proofs.Rising.{stored-past}
+use Rattle.nc_journal.proofs.Leavings.{buffer-stored, has-buffered}
 use Rattle.nc_replay.specs.declared.engine.Channel.{Channel}
 use Rattle.nc_replay.specs.declared.engine.Waiting.{Waiting}
-use Rattle.nc_replay.specs.Told.{posts_of, polls_of, StandsAt, IsAscending, HasNumber, AreStanding, sends, sends_to, told_post}
-use Rattle.nc_replay.specs.Machine.{State, channel_of, with_channel, is_unsent, posted, next_stamp, sends_waiting, post_events, after_post}
-use Rattle.nc_replay.proofs.Channels.{channel-name, channel-with, name-same, name-self}
-use Rattle.nc_replay.proofs.Good.{IsGood, SentToOne, good-push, owner-one, moved-one}
-use Rattle.nc_replay.proofs.Stand.{StandsFor, Waits, SettledAt, IsNotPast, nothing, numbers, ids_of, waits-push, find-waiting, nobody-served, alone-push, stands-quiet}
+use Rattle.nc_replay.specs.Told.{posts_of, polls_of, StandsAt, IsAscending, HasNumber, AreStanding, leaves, expired, staying, surplus, sends, sends_to, told_post}
+use Rattle.nc_replay.specs.Machine.{State, channel_of, with_channel, is_unsent, staying_of, surplus_of, within_of, entry_left, entry_of, touched, posted, next_stamp, sends_waiting, post_events, after_post}
+use Rattle.nc_replay.proofs.Channels.{channel-name, name-self, order-with}
+use Rattle.nc_replay.proofs.Put.{each-other}
+use Rattle.nc_replay.proofs.Good.{IsGood, SentToOne, LeavesOrClears, left-cleared, good-turn, good-push, fresh-stays, owner-one, moved-one}
+use Rattle.nc_replay.proofs.Room.{let_expired, make_room, room-same, good-room, nobody-room, alone-room, none-room, within, within-few, buffer-room, buffer-room-other}
+use Rattle.nc_replay.proofs.Stand.{StandsFor, Waits, SettledAt, IsNotPast, nothing, numbers, entry_at, entries, waits-push, waits-lefts, find-waiting, nobody-served, alone-push, stands-quiet, left-entries, staying-is, expired-left}
 use Rattle.nc_replay.proofs.Poll.{answered, waits-answered, settled-with}
 
 -- a message has this id
@@ -82,10 +87,10 @@ or-right : (a b : Bool) → (a || b) ≡ false → b ≡ false
 or-right true b h = absurd (true≢false h)
 or-right false b h = h
 
--- nothing was gone in an older history
-whole-older : (since older : List Event) → ((c : List ℕ) (id : Id) → is_gone c id (since ++ older) ≡ false) → (c : List ℕ) (id : Id) → is_gone c id older ≡ false
-whole-older [] older whole = whole
-whole-older (e ∷ since) older whole = whole-older since older (λ c id. or-right (lets_go c id e) (is_gone c id (since ++ older)) (whole c id))
+-- what isn't gone wasn't in an older history
+stays-older : (c : List ℕ) (id : Id) (since older : List Event) → is_gone c id (since ++ older) ≡ false → is_gone c id older ≡ false
+stays-older c id [] older here = here
+stays-older c id (e ∷ since) older here = stays-older c id since older (or-right (lets_go c id e) (is_gone c id (since ++ older)) here)
 
 has-split : (ms more : List Message) (id : Id) → HasId (ms ++ more) id → HasId ms id ⊎ HasId more id
 has-split [] more id there = inr there
@@ -96,17 +101,19 @@ has-split (m ∷ ms) more id (inr there) = further (has-split ms more id there)
     further (inl left) = inl (inr left)
     further (inr right) = inr right
 
--- a message that was stored was buffered at a look or stored since
-stored-since : (c : List ℕ) (id : Id) (since : List Event) (look : Event) (seen : List Event) → published c (look ∷ seen) ≡ published c seen → ((c : List ℕ) (id : Id) → is_gone c id (since ++ look ∷ seen) ≡ false)
+-- a message that was stored and isn't gone was buffered at a look or stored since
+stored-since : (c : List ℕ) (id : Id) (since : List Event) (look : Event) (seen : List Event) → published c (look ∷ seen) ≡ published c seen → is_gone c id (since ++ look ∷ seen) ≡ false
     → HasId (published c (since ++ look ∷ seen)) id → HasId (buffer c seen) id ⊎ HasId (published c since) id
-stored-since c id since look seen same whole there =
-    let whole-seen : (c : List ℕ) (id : Id) → is_gone c id seen ≡ false = λ c id. or-right (lets_go c id look) (is_gone c id seen) (whole-older since (look ∷ seen) whole c id) in
-    subst (λ ms. HasId ms id ⊎ HasId (published c since) id) (same ∙ sym (buffer-whole c seen whole-seen))
-    (has-split (published c (look ∷ seen)) (published c since) id (subst (λ ms. HasId ms id) (published-append c since (look ∷ seen)) there))
+stored-since c id since look seen same here there =
+    by_half (has-split (published c (look ∷ seen)) (published c since) id (subst (λ ms. HasId ms id) (published-append c since (look ∷ seen)) there))
+  where
+    by_half : HasId (published c (look ∷ seen)) id ⊎ HasId (published c since) id → HasId (buffer c seen) id ⊎ HasId (published c since) id
+    by_half (inl before) = inl (has-buffered c id seen (or-right (lets_go c id look) (is_gone c id seen) (stays-older c id since (look ∷ seen) here)) (subst (λ ms. HasId ms id) same before))
+    by_half (inr since) = inr since
 
 -- what is sent to one subscriber rests on its look
-sent-one : (c : List ℕ) (id : Id) (g : List Event) (w : Waiting) → IsPast id w.from → IsGood g → HasId (published c g) id → Waits (IsOf id) c g w → SentToOne [] g 0 w.k 0 c id (cursor_of id) (w.look ∷ [])
-sent-one c id g w past good there wait = record {
+sent-one : (c : List ℕ) (id : Id) (g : List Event) (w : Waiting) → IsPast id w.from → is_gone c id g ≡ false → HasId (published c g) id → Waits (IsOf id) c g w → SentToOne [] g 0 w.k 0 c id (cursor_of id) (w.look ∷ [])
+sent-one c id g w past here there wait = record {
   from = w.from;
   look = w.look;
   worker = refl;
@@ -123,7 +130,7 @@ sent-one c id g w past good there wait = record {
   buffered = all-weaker (IsNotPast w.from) (IsBeside w.from id) (λ m not-past. inr (inl not-past)) (buffer c wait.seen) wait.buffered;
   later = all-weaker (λ m. IsNotPast w.from m ⊎ IsOf id m) (IsBeside w.from id) beside (published c wait.since) wait.later;
   has_it = stored-since c id wait.since (Looked 0 w.look 0 w.look c w.from wait.floor wait.found) wait.seen refl
-      (subst (λ (l : List Event). (d : List ℕ) (m : Id) → is_gone d m l ≡ false) wait.looked good.whole)
+      (subst (λ (l : List Event). is_gone c id l ≡ false) wait.looked here)
       (subst (λ (l : List Event). HasId (published c l) id) wait.looked there);
 }
   where
@@ -131,11 +138,11 @@ sent-one c id g w past good there wait = record {
     beside m (inl not-past) = inr (inl not-past)
     beside m (inr is) = inl is
 
-good-answered : (c : List ℕ) (id : Id) (g : List Event) (w : Waiting) → IsPast id w.from → IsGood g → HasId (published c g) id → Waits (IsOf id) c g w → IsGood (answered w.k c id w.look g)
-good-answered c id g w past good there wait =
+good-answered : (c : List ℕ) (id : Id) (g : List Event) (w : Waiting) → IsPast id w.from → IsGood g → is_gone c id g ≡ false → HasId (published c g) id → Waits (IsOf id) c g w → IsGood (answered w.k c id w.look g)
+good-answered c id g w past good here there wait =
     let sent = Sent 0 w.k 0 c id (cursor_of id) (w.look ∷ []) in
-    let good-sent = good-push g sent good (record { stamped = tt; ordered = rw wait.stage tt; sent = sent-one c id g w past good there wait; started = tt; quiet = tt; keeps = tt }) in
-    good-push (sent ∷ g) (Ended 0 w.k Answered) good-sent (record { stamped = tt; ordered = rw (eq-eqb w.k w.k refl, wait.stage) tt; sent = tt; started = tt; quiet = tt; keeps = tt })
+    let good-sent = good-push g sent good (record { stamped = tt; ordered = rw wait.stage tt; sent = sent-one c id g w past here there wait; started = tt; quiet = tt; keeps = tt; left = tt; finds = tt }) in
+    good-push (sent ∷ g) (Ended 0 w.k Answered) good-sent (record { stamped = tt; ordered = rw (eq-eqb w.k w.k refl, wait.stage) tt; sent = tt; started = tt; quiet = tt; keeps = tt; left = tt; finds = tt })
 
 -- one whom the fresh message isn't past lacks nothing
 waits-unsent : (c : List ℕ) (id : Id) (g : List Event) (w : Waiting) → (IsPast id w.from → ⊥) → Waits (IsOf id) c g w → Waits nothing c g w
@@ -173,13 +180,13 @@ record Gone (c : List ℕ) (id : Id) (unsent : List Waiting) (g : List Event) : 
   good : IsGood g
   waits : AllByRecursion (Waits nothing c g) unsent
 
-all-sent : (c : List ℕ) (id : Id) (ws : List Waiting) (g : List Event) → IsGood g → HasId (published c g) id → AllByRecursion (Waits (IsOf id) c g) ws → IsAscending (numbers ws) → Gone c id (filter (is_unsent id) ws) (sent_to c id ws g)
-all-sent c id [] g good there waits ascending = record { good = good; waits = tt }
-all-sent c id (w ∷ ws) g good there waits ascending =
+all-sent : (c : List ℕ) (id : Id) (ws : List Waiting) (g : List Event) → IsGood g → is_gone c id g ≡ false → HasId (published c g) id → AllByRecursion (Waits (IsOf id) c g) ws → IsAscending (numbers ws) → Gone c id (filter (is_unsent id) ws) (sent_to c id ws g)
+all-sent c id [] g good here there waits ascending = record { good = good; waits = tt }
+all-sent c id (w ∷ ws) g good here there waits ascending =
     (elim (is_past id w.from) as (λ b. is_past id w.from ≡ b → Gone c id (cond (not b) (w ∷ filter (is_unsent id) ws) (filter (is_unsent id) ws)) (onto (cond b (sends w.k c id (cursor_of id) w.look) [] ++ flat_map (sends_waiting c id) ws) g)) [
-      | true ↦ λ past. all-sent c id ws (answered w.k c id w.look g) (good-answered c id g w (past_of_test id w.from past) good there waits.0) there (others-wait c id g w ws ascending.0 waits.1) ascending.1
+      | true ↦ λ past. all-sent c id ws (answered w.k c id w.look g) (good-answered c id g w (past_of_test id w.from past) good here there waits.0) here there (others-wait c id g w ws ascending.0 waits.1) ascending.1
       | false ↦ λ not-past.
-          let gone = all-sent c id ws g good there waits.1 ascending.1 in
+          let gone = all-sent c id ws g good here there waits.1 ascending.1 in
           record { good = gone.good; waits = (waits-sends nothing c id ws c g w (not-among w.k (numbers ws) ascending.0) (waits-unsent c id g w (not_past_of_test id w.from not-past) waits.0), gone.waits) }
     ]) refl
 
@@ -194,17 +201,52 @@ stamp-is c s h stands =
     ∙ ap (λ floor. next_id (max (clock_of (own 0 h)) floor) (channel_of c s.channels).last) stands.floor
     ∙ ap (next_id (max (clock_of (own 0 h)) (floor_of (own 0 h)))) (stands.last c)
 
-good-stored : (c body : List ℕ) (s : State) (h : List Event) → IsTime (next_stamp c s).time → StandsFor s h → IsGood (stored c body s ∷ h)
-good-stored c body s h time stands = good-push h (stored c body s) stands.good (record {
-  stamped = record { owner = sym (owner-one c); stamped = stamp-is c s h stands; time = time };
-  ordered = nobody-served s h stands;
-  sent = tt;
-  started = tt;
-  quiet = tt;
-  keeps = refl;
-})
+-- the message that it stores
+abbrev message : List ℕ → List ℕ → State → Message
+message c body s = message_of (next_stamp c s) 0 (s.clock + 3600) None body
 
-published-stored : (c body : List ℕ) (s : State) (h : List Event) → published c (stored c body s ∷ h) ≡ published c h ++ message_of (next_stamp c s) 0 (s.clock + 3600) None body ∷ []
+-- it is stored where room was made for it
+is-stamp : (c : List ℕ) (s : State) (h : List Event) → IsTime (next_stamp c s).time → StandsFor s h → IsStamp 1 0 c (next_stamp c s) (make_room c h)
+is-stamp c s h time stands = record {
+  owner = sym (owner-one c);
+  stamped = stamp-is c s h stands ∙ sym (room-same (λ l. stamp c (own 0 l)) c h (λ id slot cause l. refl));
+  time = time;
+}
+
+-- its id isn't gone
+not-gone : (c : List ℕ) (s : State) (h : List Event) → IsTime (next_stamp c s).time → StandsFor s h → is_gone c (next_stamp c s) (make_room c h) ≡ false
+not-gone c s h time stands =
+    let good = good-room c h stands.good (nobody-served s h stands) in
+    fresh-stays (LeavesOrClears c) c (next_stamp c s) (make_room c h) good (stored-past 1 0 c (next_stamp c s) (make_room c h) good.stamped (is-stamp c s h time stands))
+
+buffer-posted : (c body : List ℕ) (s : State) (h : List Event) → IsTime (next_stamp c s).time → StandsFor s h → buffer c (stored c body s ∷ make_room c h) ≡ within (staying c h (own 0 h)) ++ message c body s ∷ []
+buffer-posted c body s h time stands =
+    let room = make_room c h in
+    buffer-stored c 0 c (next_stamp c s) 0 10 (s.clock + 3600) (length (channel_of c s.channels).waiting) 0 s.posts None body room (not-gone c s h time stands)
+    ∙ ap (λ b. cond b (buffer c room ++ message c body s ∷ []) (buffer c room)) (name-self c c refl)
+    ∙ ap (λ ms. ms ++ message c body s ∷ []) (buffer-room c h stands.good)
+
+buffer-posted-other : (c d body : List ℕ) (s : State) (h : List Event) → name_eq c d ≡ false → buffer d (stored c body s ∷ make_room c h) ≡ buffer d h
+buffer-posted-other c d body s h other = rw other refl ∙ buffer-room-other c d h other
+
+few : (messages : List Message) (m : Message) (all : List Message) → all ≡ within messages ++ m ∷ [] → length all ≤ 10
+few messages m all are = subst (λ ms. length ms ≤ 10) (sym are) (omega (arith, length-append (within messages) (m ∷ []), within-few messages))
+
+good-stored : (c body : List ℕ) (s : State) (h : List Event) → IsTime (next_stamp c s).time → StandsFor s h → IsGood (stored c body s ∷ make_room c h)
+good-stored c body s h time stands =
+    let nobody = nobody-served s h stands in
+    good-turn (LeavesOrClears c) _ (make_room c h) (stored c body s) (good-room c h stands.good nobody) (record {
+      stamped = is-stamp c s h time stands;
+      ordered = nobody-room c h nobody;
+      sent = tt;
+      started = tt;
+      quiet = tt;
+      keeps = refl;
+      left = tt;
+      finds = (none-room c h stands.good, few (staying c h (own 0 h)) (message c body s) (buffer c (stored c body s ∷ make_room c h)) (buffer-posted c body s h time stands));
+    }) (λ newer x older is at. left-cleared c (next_stamp c s) 0 (s.clock + 3600) true (length (channel_of c s.channels).waiting) 0 s.posts None body newer x older at)
+
+published-stored : (c body : List ℕ) (s : State) (h : List Event) → published c (stored c body s ∷ h) ≡ published c h ++ message c body s ∷ []
 published-stored c body s h = rw (name-self c c refl) refl
 
 -- those who wait there wait on, but for the fresh message
@@ -226,11 +268,23 @@ waits-stored c body s h w wait = record {
     weaker m (inl before) = inl before
     weaker m (inr none) = absurd none
 
-ids-stored : (c body : List ℕ) (s : State) (h : List Event) → IsGood h → IsGood (stored c body s ∷ h) → ids_of (buffer c (stored c body s ∷ h)) ≡ ids_of (buffer c h) ++ next_stamp c s ∷ []
-ids-stored c body s h good after =
-    ap ids_of (buffer-whole c (stored c body s ∷ h) after.whole ∙ published-stored c body s h)
-    ∙ map-append (λ m. m.id) (published c h) _
-    ∙ ap (λ ms. ids_of ms ++ next_stamp c s ∷ []) (sym (buffer-whole c h good.whole))
+-- who waits does so once room was made
+waits-room : (d c : List ℕ) (h : List Event) (w : Waiting) → Waits nothing d h w → Waits nothing d (make_room c h) w
+waits-room d c h w wait = waits-lefts nothing d c Length (surplus 10 (staying c h (own 0 h))) (let_expired c h) w (waits-lefts nothing d c Expired (expired c h (own 0 h)) h w wait)
+
+within-entries : (ms : List Message) → within_of 10 (entries ms) ≡ entries (within ms)
+within-entries ms = ap (λ n. drop (n - 9) (entries ms)) (length-map ms entry_at) ∙ drop-map entry_at (length ms - 9) ms
+
+surplus-entries : (ms : List Message) → surplus_of 10 (entries ms) ≡ entries (surplus 10 ms)
+surplus-entries ms = ap (λ n. take (n - 9) (entries ms)) (length-map ms entry_at) ∙ take-map entry_at (length ms - 9) ms
+
+-- the entries once the message was stored
+entries-posted : (c body : List ℕ) (s : State) (h : List Event) → IsTime (next_stamp c s).time → StandsFor s h → within_of 10 (staying_of s.clock (channel_of c s.channels).buffer) ++ entry_of (next_stamp c s) (s.clock + 3600) ∷ [] ≡ entries (buffer c (stored c body s ∷ make_room c h))
+entries-posted c body s h time stands =
+    ap (λ es. within_of 10 es ++ entry_of (next_stamp c s) (s.clock + 3600) ∷ []) (staying-is c s h stands)
+    ∙ ap (λ es. es ++ entry_of (next_stamp c s) (s.clock + 3600) ∷ []) (within-entries (staying c h (own 0 h)))
+    ∙ sym (map-append entry_at (within (staying c h (own 0 h))) (message c body s ∷ []))
+    ∙ ap entries (sym (buffer-posted c body s h time stands))
 
 -- one stands at one list only
 one-list : (c d : List ℕ) (g : List Event) (v w : Waiting) → v.k ≡ w.k → Waits nothing c g v → Waits nothing d g w → c ≡ d
@@ -243,12 +297,6 @@ elsewhere : (c d : List ℕ) (g : List Event) (ws : List Waiting) (v : Waiting) 
 elsewhere c d g ws v other waits wait there =
     let found = find-waiting nothing c g ws v.k waits there in
     true≢false (sym (name-self c d (one-list c d g found.0 v found.1 found.2 wait)) ∙ other)
-
--- what holds of one channel in place of another, and of each channel of another name, holds of each
-each-other : (P : List ℕ → Channel → Type 0) (c : List ℕ) (x : Channel) (channels : List Channel) → x.name ≡ c → P c x → ((d : List ℕ) → name_eq c d ≡ false → P d (channel_of d channels)) → (d : List ℕ) → P d (channel_of d (with_channel c x channels))
-each-other P c x channels is here others d = subst (P d) (sym (channel-with c d x channels is)) (cond_both (name_eq c d) x (channel_of d channels) (P d)
-    (λ same. subst (λ n. P n x) (name-same c d same) here)
-    (λ other. others d other))
 
 ascending-kept : (id : Id) (ws : List Waiting) → IsAscending (numbers ws) → IsAscending (numbers (filter (is_unsent id) ws))
 ascending-kept id [] ascending = tt
@@ -266,42 +314,74 @@ settled-stays c x channels n old new is (inr same) settled = subst (SettledAt (w
 
 -- the history once the stored message has gone to all of its channel whom it is past
 abbrev once_sent : List ℕ → List ℕ → State → List Event → List Event
-once_sent c body s h = sent_to c (next_stamp c s) (channel_of c s.channels).waiting (stored c body s ∷ h)
+once_sent c body s h = sent_to c (next_stamp c s) (channel_of c s.channels).waiting (stored c body s ∷ make_room c h)
 
 stands-sent : (c body : List ℕ) (s : State) (h : List Event) → IsTime (next_stamp c s).time → StandsFor s h → StandsFor (after_post c s) (once_sent c body s h)
 stands-sent c body s h time stands =
     let id = next_stamp c s in
     let channel = channel_of c s.channels in
-    let x = posted id channel in
+    let x = posted id (s.clock + 3600) (touched s.clock channel) in
     let name = channel-name c s.channels in
     let ws = channel.waiting in
-    let g = stored c body s ∷ h in
+    let room = make_room c h in
+    let g = stored c body s ∷ room in
     let good = good-stored c body s h time stands in
-    let has : HasId (published c g) id = subst (λ ms. HasId ms id) (sym (published-stored c body s h)) (has-append-right (published c h) _ id (inl refl)) in
-    let gone = all-sent c id ws g good has (all-weaker (Waits nothing c h) (Waits (IsOf id) c g) (λ w wait. waits-stored c body s h w wait) ws (stands.waits c)) (stands.ascending c) in
+    let has : HasId (published c g) id = subst (λ ms. HasId ms id) (sym (published-stored c body s room)) (has-append-right (published c room) _ id (inl refl)) in
+    let gone = all-sent c id ws g good (not-gone c s h time stands) has (all-weaker (Waits nothing c h) (Waits (IsOf id) c g) (λ w wait. waits-stored c body s room w (waits-room c c h w wait)) ws (stands.waits c)) (stands.ascending c) in
     record {
       good = gone.good;
-      clock = stands.clock ∙ sym (same-after (λ l. clock_of (own 0 l)) c id ws g (λ k look l. refl));
-      floor = ap (λ floor. max floor id.time) stands.floor ∙ sym (same-after (λ l. floor_of (own 0 l)) c id ws g (λ k look l. refl));
-      posts = ap (λ n. n + 1) stands.posts ∙ sym (same-after (λ l. posts_of (own 0 l)) c id ws g (λ k look l. refl));
-      polls = stands.polls ∙ sym (same-after (λ l. polls_of (own 0 l)) c id ws g (λ k look l. refl));
+      clock = stands.clock ∙ sym (room-same (λ l. clock_of (own 0 l)) c h (λ id slot cause l. refl)) ∙ sym (same-after (λ l. clock_of (own 0 l)) c id ws g (λ k look l. refl));
+      floor = ap (λ floor. max floor id.time) (stands.floor ∙ sym (room-same (λ l. floor_of (own 0 l)) c h (λ id slot cause l. refl))) ∙ sym (same-after (λ l. floor_of (own 0 l)) c id ws g (λ k look l. refl));
+      posts = ap (λ n. n + 1) (stands.posts ∙ sym (room-same (λ l. posts_of (own 0 l)) c h (λ id slot cause l. refl))) ∙ sym (same-after (λ l. posts_of (own 0 l)) c id ws g (λ k look l. refl));
+      polls = stands.polls ∙ sym (room-same (λ l. polls_of (own 0 l)) c h (λ id slot cause l. refl)) ∙ sym (same-after (λ l. polls_of (own 0 l)) c id ws g (λ k look l. refl));
       last = each-other (λ d y. y.last ≡ last_of d (own 0 (once_sent c body s h))) c x s.channels name
           (rw (name-self c c refl) refl ∙ sym (same-after (λ l. last_of c (own 0 l)) c id ws g (λ k look l. refl)))
-          (λ d other. stands.last d ∙ rw other refl ∙ sym (same-after (λ l. last_of d (own 0 l)) c id ws g (λ k look l. refl)));
-      ids = each-other (λ d y. y.ids ≡ ids_of (buffer d (once_sent c body s h))) c x s.channels name
-          (ap (λ ids. ids ++ id ∷ []) (stands.ids c) ∙ sym (ids-stored c body s h stands.good good) ∙ sym (same-after (λ l. ids_of (buffer c l)) c id ws g (λ k look l. refl)))
-          (λ d other. stands.ids d ∙ rw other refl ∙ sym (same-after (λ l. ids_of (buffer d l)) c id ws g (λ k look l. refl)));
+          (λ d other. stands.last d ∙ sym (room-same (λ l. last_of d (own 0 l)) c h (λ id slot cause l. refl)) ∙ rw other refl ∙ sym (same-after (λ l. last_of d (own 0 l)) c id ws g (λ k look l. refl)));
+      buffer = each-other (λ d y. y.buffer ≡ entries (buffer d (once_sent c body s h))) c x s.channels name
+          (entries-posted c body s h time stands ∙ sym (same-after (λ l. entries (buffer c l)) c id ws g (λ k look l. refl)))
+          (λ d other. stands.buffer d ∙ ap entries (sym (buffer-posted-other c d body s h other)) ∙ sym (same-after (λ l. entries (buffer d l)) c id ws g (λ k look l. refl)));
+      order = order-with c x s.channels name stands.order;
       waits = each-other (λ d y. AllByRecursion (Waits nothing d (once_sent c body s h)) y.waiting) c x s.channels name gone.waits
           (λ d other. all-weaker (Waits nothing d h) (Waits nothing d (once_sent c body s h)) (λ v wait. waits-sends nothing c id ws d g v (elsewhere c d h ws v other (stands.waits c) wait)
-          (waits-push nothing d h (stored c body s) v (λ l. rw other refl) refl refl wait)) (channel_of d s.channels).waiting (stands.waits d));
+          (waits-push nothing d room (stored c body s) v (λ l. rw other refl) refl refl (waits-room d c h v wait))) (channel_of d s.channels).waiting (stands.waits d));
       ascending = each-other (λ d y. IsAscending (numbers y.waiting)) c x s.channels name (ascending-kept id ws (stands.ascending c)) (λ d other. stands.ascending d);
-      settled = λ n. settled-stays c x s.channels n (stage_of n (own 0 h)) (stage_of n (own 0 (once_sent c body s h))) name (stage-sends c id ws n g) (stands.settled n);
-      alone = λ w other. same-after (own w) c id ws g (λ k look l. rw other refl) ∙ alone-push h (stored c body s) (λ v different. different) stands.alone w other;
+      settled = λ n. settled-stays c x s.channels n (stage_of n (own 0 h)) (stage_of n (own 0 (once_sent c body s h))) name
+          (subst (λ old. Stays n ws (filter (is_unsent id) ws) old (stage_of n (own 0 (once_sent c body s h)))) (room-same (λ l. stage_of n (own 0 l)) c h (λ id slot cause l. refl)) (stage-sends c id ws n g))
+          (stands.settled n);
+      alone = λ w other. same-after (own w) c id ws g (λ k look l. rw other refl) ∙ alone-push room (stored c body s) (λ v different. different) (alone-room c h stands.alone) w other;
     }
+
+-- the events of a post, by what leaves
+abbrev events : List ℕ → List ℕ → State → List Event → List Event → List Event
+events c body s left room = left ++ room ++ stored c body s ∷ flat_map (sends_waiting c (next_stamp c s)) (channel_of c s.channels).waiting ++ Quiet ∷ []
+
+abbrev left_events : List ℕ → List Event → List Event
+left_events c h = map (leaves c Expired) (expired c h (own 0 h))
+
+abbrev room_events : List ℕ → List Event → List Event
+room_events c h = map (leaves c Length) (surplus 10 (staying c h (own 0 h)))
+
+room-left : (c : List ℕ) (s : State) (h : List Event) → StandsFor s h → map (entry_left c Length) (surplus_of 10 (staying_of s.clock (channel_of c s.channels).buffer)) ≡ room_events c h
+room-left c s h stands =
+    ap (λ es. map (entry_left c Length) (surplus_of 10 es)) (staying-is c s h stands)
+    ∙ ap (map (entry_left c Length)) (surplus-entries (staying c h (own 0 h)))
+    ∙ left-entries c Length (surplus 10 (staying c h (own 0 h)))
+
+same-events : (c body : List ℕ) (s : State) (h : List Event) → StandsFor s h → post_events c body s ≡ events c body s (left_events c h) (room_events c h)
+same-events c body s h stands =
+    ap (λ left. events c body s left (map (entry_left c Length) (surplus_of 10 (staying_of s.clock (channel_of c s.channels).buffer)))) (expired-left c s h stands)
+    ∙ ap (events c body s (left_events c h)) (room-left c s h stands)
 
 pub stands-post : (c body : List ℕ) (s : State) (h : List Event) → IsTime (next_stamp c s).time → StandsFor s h → StandsFor (after_post c s) (onto (post_events c body s) h)
 stands-post c body s h time stands =
-    subst (StandsFor (after_post c s)) (sym (onto-append (flat_map (sends_waiting c (next_stamp c s)) (channel_of c s.channels).waiting) (Quiet ∷ []) (stored c body s ∷ h)))
+    let left = left_events c h in
+    let room = room_events c h in
+    let sent = flat_map (sends_waiting c (next_stamp c s)) (channel_of c s.channels).waiting in
+    subst (StandsFor (after_post c s)) (sym
+    (ap (λ es. onto es h) (same-events c body s h stands)
+    ∙ onto-append (left ++ room ++ stored c body s ∷ sent) (Quiet ∷ []) h
+    ∙ ap (λ (l : List Event). Quiet ∷ l) (onto-append (left ++ room) (stored c body s ∷ sent) h)
+    ∙ ap (λ (l : List Event). Quiet ∷ onto sent (stored c body s ∷ l)) (onto-append left room h)))
     (stands-quiet (after_post c s) (once_sent c body s h) (stands-sent c body s h time stands))
 
 -- by the state, a message goes to the same as by the history
@@ -335,19 +415,22 @@ are-standing c s h stands = record {
     at k (Standing list once cur) settled here = subst (λ d. HasNumber (numbers (channel_of d s.channels).waiting) k) (same-name list settled.0 settled.1 here) settled.2
 
 -- the events of a post, by its parts
-abbrev told : List ℕ → List ℕ → Id → ℕ → ℕ → ℕ → List Event → List Event
-told c body id clock members posts sent = Stored 0 c id 0 10 (clock + 3600) true members 0 posts None body ∷ sent ++ Quiet ∷ []
+abbrev told : List ℕ → List ℕ → List Event → List Event → Id → ℕ → ℕ → ℕ → List Event → List Event
+told c body left room id clock members posts sent = left ++ room ++ Stored 0 c id 0 10 (clock + 3600) true members 0 posts None body ∷ sent ++ Quiet ∷ []
 
-pub tells-post : (c body : List ℕ) (s : State) (h : List Event) → StandsFor s h → (ks : List ℕ) × AreStanding c (own 0 h) ks × (post_events c body s ≡ told_post c body ks (own 0 h))
+pub tells-post : (c body : List ℕ) (s : State) (h : List Event) → StandsFor s h → (ks : List ℕ) × AreStanding c (own 0 h) ks × (post_events c body s ≡ told_post c body ks h (own 0 h))
 tells-post c body s h stands =
     let l = own 0 h in
     let ws = (channel_of c s.channels).waiting in
-    let id = stamp c l in (
+    let id = stamp c l in
+    let left = left_events c h in
+    let room = room_events c h in (
       numbers ws,
       are-standing c s h stands,
-      ap (λ id. told c body id s.clock (length ws) s.posts (flat_map (sends_waiting c id) ws)) (stamp-is c s h stands)
-          ∙ ap (λ clock. told c body id clock (length ws) s.posts (flat_map (sends_waiting c id) ws)) stands.clock
-          ∙ ap (λ members. told c body id (clock_of l) members s.posts (flat_map (sends_waiting c id) ws)) (sym (length-map ws (λ w. w.k)))
-          ∙ ap (λ posts. told c body id (clock_of l) (length (numbers ws)) posts (flat_map (sends_waiting c id) ws)) stands.posts
-          ∙ ap (told c body id (clock_of l) (length (numbers ws)) (posts_of l)) (same-sends c id h ws (stands.waits c)),
+      same-events c body s h stands
+          ∙ ap (λ id. told c body left room id s.clock (length ws) s.posts (flat_map (sends_waiting c id) ws)) (stamp-is c s h stands)
+          ∙ ap (λ clock. told c body left room id clock (length ws) s.posts (flat_map (sends_waiting c id) ws)) stands.clock
+          ∙ ap (λ members. told c body left room id (clock_of l) members s.posts (flat_map (sends_waiting c id) ws)) (sym (length-map ws (λ w. w.k)))
+          ∙ ap (λ posts. told c body left room id (clock_of l) (length (numbers ws)) posts (flat_map (sends_waiting c id) ws)) stands.posts
+          ∙ ap (told c body left room id (clock_of l) (length (numbers ws)) (posts_of l)) (same-sends c id h ws (stands.waits c)),
     )

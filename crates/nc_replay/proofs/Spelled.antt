@@ -3,7 +3,7 @@ use Rattle.std.proofs.Common.{◌≡◌, ◌≢◌, ◌⊎◌, inr, ℕ, List, [
 use Rattle.std.specs.List.{AllByRecursion}
 use Rattle.std.proofs.lemmas.List.{append_cancel_right}
 use Rattle.nc_replay.specs.declared.line.Line.{Line}
-use Rattle.nc_replay.specs.declared.line.Line.TheVariants.{Clock, Post, Poll}
+use Rattle.nc_replay.specs.declared.line.Line.TheVariants.{Clock, Reap, Post, Poll}
 use Rattle.nc_replay.specs.Script.{IsDigit, IsLetter, value_of, SpellsNumber, IsName, IsBody, Spells, SpellsOneLine, IsCut}
 use Rattle.nc_replay.proofs.Cuts.{not_cut, cut_one_way}
 
@@ -66,6 +66,13 @@ one_line text (Clock t) (Clock u) h k =
     ap (λ (n : ℕ). Clock n) (same_number 4102444800 h.0 k.0 t u (ap (drop 8) (sym h.1 ∙ k.1)) h.2 k.2)
 one_line text (Clock t) (Post name body) h k = absurd (let e : 99 ≡ 112 = ap (λ (l : List ℕ). get_or l 0 0) (sym h.1 ∙ k.0) in omega arith)
 one_line text (Clock t) (Poll n name) h k = absurd (let e : 99 ≡ 112 = ap (λ (l : List ℕ). get_or l 0 0) (sym h.1 ∙ k.1) in omega arith)
+one_line text (Clock t) Reap h k = absurd (let e : 99 ≡ 114 = ap (λ (l : List ℕ). get_or l 0 0) (sym h.1 ∙ k) in omega arith)
+one_line text Reap (Clock t) h k = absurd (let e : 114 ≡ 99 = ap (λ (l : List ℕ). get_or l 0 0) (sym h ∙ k.1) in omega arith)
+one_line text Reap Reap h k = refl
+one_line text Reap (Post name body) h k = absurd (let e : 114 ≡ 112 = ap (λ (l : List ℕ). get_or l 0 0) (sym h ∙ k.0) in omega arith)
+one_line text Reap (Poll n name) h k = absurd (let e : 114 ≡ 112 = ap (λ (l : List ℕ). get_or l 0 0) (sym h ∙ k.1) in omega arith)
+one_line text (Post name body) Reap h k = absurd (let e : 112 ≡ 114 = ap (λ (l : List ℕ). get_or l 0 0) (sym h.0 ∙ k) in omega arith)
+one_line text (Poll n name) Reap h k = absurd (let e : 112 ≡ 114 = ap (λ (l : List ℕ). get_or l 0 0) (sym h.1 ∙ k) in omega arith)
 one_line text (Post name body) (Clock t) h k = absurd (let e : 112 ≡ 99 = ap (λ (l : List ℕ). get_or l 0 0) (sym h.0 ∙ k.1) in omega arith)
 one_line text (Post name body) (Post other more) h k =
     let begins = post_begins text name body h in
@@ -85,5 +92,6 @@ one_line text (Poll n name) (Poll m other) h k =
 -- what a line is, by how its text begins
 pub poll_line : (text : List ℕ) (line : Line) → Spells (codes "poll 0 " ++ text) line → (k : ℕ) × (name : List ℕ) × Spells (codes "poll 0 " ++ text) (Poll k name)
 poll_line text (Clock t) h = absurd (let e : 112 ≡ 99 = ap (λ (l : List ℕ). get_or l 0 0) h.1 in omega arith)
+poll_line text Reap h = absurd (let e : 112 ≡ 114 = ap (λ (l : List ℕ). get_or l 0 0) h in omega arith)
 poll_line text (Post name body) h = absurd (let e : 108 ≡ 115 = ap (λ (l : List ℕ). get_or l 2 0) h.0 in omega arith)
 poll_line text (Poll k name) h = (k, name, h)

@@ -1,29 +1,41 @@
 -- What the engine's state says of the history so far.
-use Rattle.std.proofs.Common.{◌≡◌, ◌⊎◌, inl, inr, ℕ, zero, suc, Bool, true, false, cond, ◌==◌, List, [], ◌∷◌, ◌++◌, map, refl, sym, ◌∙◌, subst, ap, Option, Some, slice_get}
+use Rattle.std.proofs.Common.{◌≡◌, ◌⊎◌, inl, inr, ℕ, zero, suc, Bool, true, false, cond, ◌==◌, List, [], ◌∷◌, ◌++◌, map, filter, not, refl, sym, ◌∙◌, subst, ap, Option, Some, slice_get}
 use Rattle.std.specs.List.{AllByRecursion}
 use Rattle.std.proofs.lemmas.Bool.{eqb-true}
 use Rattle.nc_types.specs.Id.{Id, IsPast}
 use Rattle.nc_types.specs.Cursor.{CursorAt, cursor_id, cursor_of}
 use Rattle.nc_journal.specs.declared.event.Event.{Event}
-use Rattle.nc_journal.specs.declared.event.Event.TheVariants.{Clock as ClockEvent, Looked, Quiet}
+use Rattle.nc_journal.specs.declared.event.Event.TheVariants.{Clock as ClockEvent, Left, Looked, Quiet}
+use Rattle.nc_journal.specs.declared.word.LeftCause.{LeftCause}
+use Rattle.nc_journal.specs.declared.word.LeftCause.TheVariants.{Expired}
 use Rattle.nc_journal.specs.History.{own, is_by}
 use Rattle.nc_journal.specs.Stamp.{clock_of, floor_of, last_of}
-use Rattle.nc_journal.specs.Message.{Message, published, buffer}
+use Rattle.nc_journal.specs.Message.{Message, published, buffer, is_gone}
 use Rattle.nc_journal.specs.Standing.{Stage, Absent, Starting, Standing, Served, Over, stage_of, IsServed, NobodyServed}
 use Rattle.nc_journal.specs.Sending.{LacksNothing}
 use Rattle.nc_journal.proofs.Cuts.{all-weaker, all-left, all-right}
-use Rattle.nc_journal.proofs.Buffers.{published-push, buffer-keeps}
+use Rattle.nc_journal.proofs.Buffers.{published-push, buffer-keeps, all-filtered}
+use Rattle.nc_journal.proofs.Leavings.{lefts}
+use Rattle.nc_buffer.specs.declared.entry.Entry.{Entry}
+use Rattle.nc_buffer.specs.Buffer.{is_expired as is_expired_entry}
+use Rattle.nc_journal.specs.Leaving.{is_expired}
+use Rattle.nc_journal.proofs.Ids.{IsAtMost}
+use Rattle.nc_journal.proofs.Rising.{published-below}
 use Rattle.nc_replay.specs.declared.engine.Channel.{Channel}
 use Rattle.nc_replay.specs.declared.engine.Waiting.{Waiting}
-use Rattle.nc_replay.specs.Told.{posts_of, polls_of, look_of, IsAscending, HasNumber}
-use Rattle.nc_replay.specs.Machine.{State, start, channel_of, after_clock}
-use Rattle.nc_replay.proofs.Good.{IsGood, good-push, good-start, none-further}
+use Rattle.nc_replay.specs.Told.{posts_of, polls_of, look_of, IsAscending, HasNumber, AreInOrder, leaves, expired, staying}
+use Rattle.nc_replay.specs.Machine.{names_of, State, start, channel_of, expired_of, staying_of, entry_left, after_clock}
+use Rattle.nc_replay.proofs.Good.{IsGood, good-push, good-start, none-further, owner-one}
 
 abbrev pub numbers : List Waiting → List ℕ
 numbers waiting = map (λ w. w.k) waiting
 
-abbrev pub ids_of : List Message → List Id
-ids_of messages = map (λ m. m.id) messages
+-- the entry of a message, which nothing was granted
+abbrev pub entry_at : Message → Entry
+entry_at m = record { id = m.id; slot = m.slot; expires = m.expires; grants = 0 }
+
+abbrev pub entries : List Message → List Entry
+entries messages = map entry_at messages
 
 abbrev pub IsNotPast : Id → Message → Type 0
 IsNotPast from m = IsPast m.id from → ⊥
@@ -58,7 +70,8 @@ pub record StandsFor (s : State) (h : List Event) : Type 0 where
   pub posts : s.posts ≡ posts_of (own 0 h)
   pub polls : s.polls ≡ polls_of (own 0 h)
   pub last : (c : List ℕ) → (channel_of c s.channels).last ≡ last_of c (own 0 h)
-  pub ids : (c : List ℕ) → (channel_of c s.channels).ids ≡ ids_of (buffer c h)
+  pub buffer : (c : List ℕ) → (channel_of c s.channels).buffer ≡ entries (buffer c h)
+  pub order : AreInOrder (names_of s.channels)
   pub waits : (c : List ℕ) → AllByRecursion (Waits nothing c h) (channel_of c s.channels).waiting
   pub ascending : (c : List ℕ) → IsAscending (numbers (channel_of c s.channels).waiting)
   pub settled : (k : ℕ) → SettledAt s.channels k (stage_of k (own 0 h))
@@ -72,7 +85,8 @@ stands-start = record {
   posts = refl;
   polls = refl;
   last = λ c. refl;
-  ids = λ c. refl;
+  buffer = λ c. refl;
+  order = tt;
   waits = λ c. tt;
   ascending = λ c. tt;
   settled = λ k. tt;
@@ -93,6 +107,11 @@ waits-push fresh c h e w stores stage look wait = record {
   buffered = wait.buffered;
   later = subst (AllByRecursion (λ m. IsNotPast w.from m ⊎ fresh m)) (sym (stores wait.since)) wait.later;
 }
+
+-- messages that leave change nothing of one that waits
+pub waits-lefts : (fresh : Message → Type 0) (d c : List ℕ) (cause : LeftCause) (ms : List Message) (h : List Event) (w : Waiting) → Waits fresh d h w → Waits fresh d (lefts 0 c cause ms h) w
+waits-lefts fresh d c cause [] h w wait = wait
+waits-lefts fresh d c cause (m ∷ ms) h w wait = waits-lefts fresh d c cause ms (Left 0 c m.id m.slot cause ∷ h) w (waits-push fresh d h (Left 0 c m.id m.slot cause) w (λ l. refl) refl refl wait)
 
 -- what holds of the buffer and of what was stored since holds of the buffer now
 buffer-since : (P : Message → Type 0) (c : List ℕ) (since older : List Event) → AllByRecursion P (buffer c older) → AllByRecursion P (published c since) → AllByRecursion P (buffer c (since ++ older))
@@ -167,13 +186,14 @@ alone-push h e not_by alone w other = ap (λ b. cond b (e ∷ own w h) (own w h)
 -- a quiet event
 pub stands-quiet : (s : State) (h : List Event) → StandsFor s h → StandsFor s (Quiet ∷ h)
 stands-quiet s h stands = record {
-  good = good-push h Quiet stands.good (record { stamped = tt; ordered = nobody-served s h stands; sent = tt; started = tt; quiet = lacks-nothing s h stands; keeps = tt });
+  good = good-push h Quiet stands.good (record { stamped = tt; ordered = nobody-served s h stands; sent = tt; started = tt; quiet = lacks-nothing s h stands; keeps = tt; left = tt; finds = tt });
   clock = stands.clock;
   floor = stands.floor;
   posts = stands.posts;
   polls = stands.polls;
   last = stands.last;
-  ids = stands.ids;
+  buffer = stands.buffer;
+  order = stands.order;
   waits = λ c. all-weaker (Waits nothing c h) (Waits nothing c (Quiet ∷ h)) (λ w wait. waits-push nothing c h Quiet w (λ l. refl) refl refl wait) (channel_of c s.channels).waiting (stands.waits c);
   ascending = stands.ascending;
   settled = stands.settled;
@@ -183,15 +203,58 @@ stands-quiet s h stands = record {
 -- a clock event
 pub stands-clock : (t : ℕ) (s : State) (h : List Event) → StandsFor s h → StandsFor (after_clock t s) (ClockEvent 0 t ∷ h)
 stands-clock t s h stands = record {
-  good = good-push h (ClockEvent 0 t) stands.good (record { stamped = tt; ordered = nobody-served s h stands; sent = tt; started = tt; quiet = tt; keeps = tt });
+  good = good-push h (ClockEvent 0 t) stands.good (record { stamped = tt; ordered = nobody-served s h stands; sent = tt; started = tt; quiet = tt; keeps = tt; left = tt; finds = tt });
   clock = refl;
   floor = stands.floor;
   posts = stands.posts;
   polls = stands.polls;
   last = stands.last;
-  ids = stands.ids;
+  buffer = stands.buffer;
+  order = stands.order;
   waits = λ c. all-weaker (Waits nothing c h) (Waits nothing c (ClockEvent 0 t ∷ h)) (λ w wait. waits-push nothing c h (ClockEvent 0 t) w (λ l. refl) refl refl wait) (channel_of c s.channels).waiting (stands.waits c);
   ascending = stands.ascending;
   settled = stands.settled;
   alone = alone-push h (ClockEvent 0 t) (λ w other. other) stands.alone;
 }
+
+-- messages as entries
+
+filter-entries : (test : Entry → Bool) (ms : List Message) → filter test (entries ms) ≡ entries (filter (λ m. test (entry_at m)) ms)
+filter-entries test [] = refl
+filter-entries test (m ∷ ms) = by_test (test (entry_at m)) (filter-entries test ms)
+  where
+    by_test : (b : Bool) → filter test (entries ms) ≡ entries (filter (λ x. test (entry_at x)) ms) → cond b (entry_at m ∷ filter test (entries ms)) (filter test (entries ms)) ≡ entries (cond b (m ∷ filter (λ x. test (entry_at x)) ms) (filter (λ x. test (entry_at x)) ms))
+    by_test true rest = ap (λ l. entry_at m ∷ l) rest
+    by_test false rest = rest
+
+pub left-entries : (c : List ℕ) (cause : LeftCause) (ms : List Message) → map (entry_left c cause) (entries ms) ≡ map (leaves c cause) ms
+left-entries c cause [] = refl
+left-entries c cause (m ∷ ms) = ap (λ l. leaves c cause m ∷ l) (left-entries c cause ms)
+
+-- what stays of a channel's entries, and what has expired of them
+pub staying-is : (c : List ℕ) (s : State) (h : List Event) → StandsFor s h → staying_of s.clock (channel_of c s.channels).buffer ≡ entries (staying c h (own 0 h))
+staying-is c s h stands =
+    ap (staying_of s.clock) (stands.buffer c)
+    ∙ filter-entries (λ e. not (is_expired_entry s.clock e)) (buffer c h)
+    ∙ ap (λ now. entries (filter (λ m. not (is_expired now m)) (buffer c h))) stands.clock
+
+pub expired-is : (c : List ℕ) (s : State) (h : List Event) → StandsFor s h → expired_of s.clock (channel_of c s.channels).buffer ≡ entries (expired c h (own 0 h))
+expired-is c s h stands =
+    ap (expired_of s.clock) (stands.buffer c)
+    ∙ filter-entries (is_expired_entry s.clock) (buffer c h)
+    ∙ ap (λ now. entries (filter (is_expired now) (buffer c h))) stands.clock
+
+pub expired-left : (c : List ℕ) (s : State) (h : List Event) → StandsFor s h → map (entry_left c Expired) (expired_of s.clock (channel_of c s.channels).buffer) ≡ map (leaves c Expired) (expired c h (own 0 h))
+expired-left c s h stands = ap (map (entry_left c Expired)) (expired-is c s h stands) ∙ left-entries c Expired (expired c h (own 0 h))
+
+-- no entry of a channel is past the channel's last id
+pub ends-at-last : (c : List ℕ) (s : State) (h : List Event) → StandsFor s h → AllByRecursion (λ e. IsAtMost e.id (channel_of c s.channels).last) (channel_of c s.channels).buffer
+ends-at-last c s h stands =
+    subst (AllByRecursion (λ e. IsAtMost e.id (channel_of c s.channels).last)) (sym (stands.buffer c))
+    (subst (λ last. AllByRecursion (λ e. IsAtMost e.id last) (entries (buffer c h))) (sym (stands.last c))
+    (all-entries (buffer c h) (all-filtered (λ m. IsAtMost m.id (last_of c (own 0 h))) (λ m. not (is_gone c m.id h)) (published c h)
+    (subst (λ w. AllByRecursion (λ m. IsAtMost m.id (last_of c (own w h))) (published c h)) (owner-one c) (published-below 1 c h stands.good.stamped)))))
+  where
+    all-entries : (ms : List Message) → AllByRecursion (λ m. IsAtMost m.id (last_of c (own 0 h))) ms → AllByRecursion (λ e. IsAtMost e.id (last_of c (own 0 h))) (entries ms)
+    all-entries [] all = tt
+    all-entries (m ∷ ms) all = (all.0, all-entries ms all.1)

@@ -1,5 +1,5 @@
 -- Each line leads from what the state stands for to what the state after it stands for, and tells its events.
-use Rattle.std.proofs.Common.{◌≡◌, ℕ, ◌+◌, ◌<◌, ◌≤◌, max, List, refl, ◌∙◌, arith, Option, Some, None}
+use Rattle.std.proofs.Common.{◌≡◌, ℕ, ◌+◌, ◌<◌, ◌≤◌, max, List, refl, sym, subst, ◌∙◌, arith, Option, Some, None}
 use Rattle.nc_types.specs.Id.{Id, no_id}
 use Rattle.nc_journal.specs.declared.event.Event.{Event}
 use Rattle.nc_journal.specs.History.{onto}
@@ -8,13 +8,14 @@ use Rattle.nc_journal.proofs.Standings.{absent-unless}
 use Rattle.nc_replay.specs.declared.engine.Channel.{Channel}
 use Rattle.nc_replay.specs.declared.engine.Waiting.{Waiting}
 use Rattle.nc_replay.specs.declared.line.Line.{Line}
-use Rattle.nc_replay.specs.declared.line.Line.TheVariants.{Clock, Post, Poll}
+use Rattle.nc_replay.specs.declared.line.Line.TheVariants.{Clock, Reap, Post, Poll}
 use Rattle.nc_replay.specs.Told.{Tells, IsNew}
-use Rattle.nc_replay.specs.Machine.{State, start, events_of, after, next_stamp, channel_of, first_id, posted, polled, waiting_of, after_clock, after_post, after_poll, Fits}
-use Rattle.nc_replay.proofs.Channels.{channel-name, each-channel}
-use Rattle.nc_replay.proofs.Stand.{StandsFor, stands-quiet, stands-clock}
+use Rattle.nc_replay.specs.Machine.{State, start, events_of, after, next_stamp, channel_of, touched, first_id, posted, polled, waiting_of, after_clock, after_reap, after_post, after_poll, Fits}
+use Rattle.nc_replay.proofs.Channels.{channel-name, each-channel, channel-touched}
+use Rattle.nc_replay.proofs.Stand.{StandsFor, stands-quiet, stands-clock, ends-at-last}
 use Rattle.nc_replay.proofs.Poll.{stands-poll, tells-poll}
 use Rattle.nc_replay.proofs.Post.{stands-post, tells-post}
+use Rattle.nc_replay.proofs.Reap.{stands-reap, tells-reap}
 
 -- how far the numbers can have come after some lines
 pub record HasCome (s : State) (n : ℕ) : Type 0 where
@@ -42,11 +43,20 @@ stamp-time clock floor last n clock-within floor-within last-within = grind arit
 come-clock : (t : ℕ) (s : State) (n : ℕ) → t ≤ 4102444800 → HasCome s n → HasCome (after_clock t s) (n + 1)
 come-clock t s n within come = record { clock = within; floor = omega (arith, come.floor); last = come.last; posts = omega (arith, come.posts); polls = omega (arith, come.polls) }
 
+come-reap : (s : State) (n : ℕ) → HasCome s n → HasCome (after_reap s) (n + 1)
+come-reap s n come = record {
+  clock = come.clock;
+  floor = omega (arith, come.floor);
+  last = λ c. subst (λ x. x.last.time ≤ s.floor) (sym (channel-touched s.clock c s.channels)) (come.last c);
+  posts = omega (arith, come.posts);
+  polls = omega (arith, come.polls);
+}
+
 come-post : (c : List ℕ) (s : State) (n : ℕ) → (next_stamp c s).time ≤ 4102444800 + n + 1 → HasCome s n → HasCome (after_post c s) (n + 1)
 come-post c s n time come = record {
   clock = come.clock;
   floor = floor-comes s.floor (next_stamp c s).time come.floor time;
-  last = each-channel (λ d x. x.last.time ≤ max s.floor (next_stamp c s).time) c (posted (next_stamp c s) (channel_of c s.channels)) s.channels (channel-name c s.channels) (omega arith) (λ d. omega (arith, come.last d));
+  last = each-channel (λ d x. x.last.time ≤ max s.floor (next_stamp c s).time) c (posted (next_stamp c s) (s.clock + 3600) (touched s.clock (channel_of c s.channels))) s.channels (channel-name c s.channels) (omega arith) (λ d. omega (arith, come.last d));
   posts = omega (arith, come.posts);
   polls = omega (arith, come.polls);
 }
@@ -64,9 +74,9 @@ same-name w (Some id) channel = refl
 
 come-poll : (k : ℕ) (c : List ℕ) (from : Id) (s : State) (n : ℕ) → HasCome s n → HasCome (after_poll k c from s) (n + 1)
 come-poll k c from s n come =
-    let channel = channel_of c s.channels in
+    let channel = touched s.clock (channel_of c s.channels) in
     let w = waiting_of k from s.polls in
-    let found = first_id from channel.ids in
+    let found = first_id from channel.buffer in
     record {
       clock = come.clock;
       floor = omega (arith, come.floor);
@@ -77,6 +87,7 @@ come-poll k c from s n come =
 
 pub makes-line : (s : State) (h : List Event) (l : Line) (n : ℕ) → n < 4294967295 → StandsFor s h → HasCome s n → IsWithin l → IsNew h l → Makes s h l n
 makes-line s h (Clock t) n few stands come within new = record { tells = refl; stands = stands-quiet _ _ (stands-clock t s h stands); come = come-clock t s n within come }
+makes-line s h Reap n few stands come within new = record { tells = tells-reap s h stands; stands = stands-reap s h stands; come = come-reap s n come }
 makes-line s h (Post c body) n few stands come within new =
     let time = stamp-time s.clock s.floor (channel_of c s.channels).last n come.clock come.floor (come.last c) in
     record { tells = tells-post c body s h stands; stands = stands-post c body s h (omega (arith, time)) stands; come = come-post c s n time come }
@@ -86,8 +97,8 @@ makes-line s h (Poll k c) n few stands come within new = record {
   come = come-poll k c no_id s n come;
 }
 
-pub come-fits : (s : State) (n : ℕ) → n < 4294967295 → HasCome s n → Fits s
-come-fits s n few come = record { clock = come.clock; floor = omega (arith, come.floor); last = come.last; posts = omega (arith, come.posts); polls = omega (arith, come.polls) }
+pub come-fits : (s : State) (h : List Event) (n : ℕ) → n < 4294967295 → StandsFor s h → HasCome s n → Fits s
+come-fits s h n few stands come = record { clock = come.clock; floor = omega (arith, come.floor); last = come.last; order = stands.order; kept = λ c. ends-at-last c s h stands; posts = omega (arith, come.posts); polls = omega (arith, come.polls) }
 
 pub come-start : HasCome start 0
 come-start = record { clock = omega arith; floor = omega arith; last = λ c. omega arith; posts = omega arith; polls = omega arith }

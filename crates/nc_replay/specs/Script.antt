@@ -2,7 +2,7 @@
 use Rattle.std.specs.Prelude.{◌≡◌, ◌⊎◌, ℕ, ◌+◌, ◌-◌, ◌*◌, ◌<◌, ◌≤◌, ◌≢◌, List, [], ◌∷◌, ◌++◌, length, codes, if◌then◌else◌, ◌==◌, fold, Option, MatchOption}
 use Rattle.std.specs.List.{AllByRecursion}
 use Rattle.nc_replay.specs.declared.line.Line.{Line}
-use Rattle.nc_replay.specs.declared.line.Line.TheVariants.{Clock, Post, Poll}
+use Rattle.nc_replay.specs.declared.line.Line.TheVariants.{Clock, Reap, Post, Poll}
 
 -- a text is cut into lines at each LF, and the last line may end with the text
 abbrev pub onto_first : ℕ → List (List ℕ) → List (List ℕ)
@@ -45,9 +45,10 @@ pub record IsBody (body : List ℕ) : Type 0 where
   pub plain : AllByRecursion IsPlain body
   pub few : length body ≤ 65536
 
--- which text says what: `clock 0 T`, `post 0 NAME "BODY"` and `poll 0 K NAME 0:-`, with single spaces
+-- which text says what: `clock 0 T`, `reap 0`, `post 0 NAME "BODY"` and `poll 0 K NAME 0:-`, with single spaces
 abbrev pub Spells : List ℕ → Line → Type 0
 Spells text (Clock t) = (digits : List ℕ) × (text ≡ codes "clock 0 " ++ digits) × SpellsNumber 4102444800 digits t
+Spells text Reap = text ≡ codes "reap 0"
 Spells text (Post name body) = (text ≡ codes "post 0 " ++ name ++ codes " \"" ++ body ++ codes "\"") × IsName name × IsBody body
 Spells text (Poll k name) = (digits : List ℕ) × (text ≡ codes "poll 0 " ++ digits ++ codes " " ++ name ++ codes " 0:-") × SpellsNumber 65535 digits k × IsName name
 

@@ -1,5 +1,8 @@
 -- The events that each line of a script tells, by the history before it.
-use Rattle.std.specs.Prelude.{◌≡◌, ◌⊎◌, ℕ, ◌+◌, ◌<◌, not, false, List, [], ◌∷◌, ◌++◌, length, if◌then◌else◌, ◌==◌, Option, Some, None}
+use Rattle.std.specs.Prelude.{◌≡◌, ◌⊎◌, ℕ, ◌+◌, ◌<◌, not, false, List, [], ◌∷◌, ◌++◌, ◌-◌, length, map, filter, find, take, if◌then◌else◌, ◌==◌, Option, Some, None}
+use Rattle.std.specs.Cmp.Lexicographic.{slice_cmp}
+use Rattle.std.specs.Ordering.{nat_cmp}
+use Rattle.std.specs.declared.cmp.Ordering.TheVariants.{Less}
 use Rattle.std.specs.List.{AllByRecursion, flat_map}
 use Rattle.std.specs.Option.{option_map}
 use Rattle.nc_types.specs.Id.{Id, is_past, no_id}
@@ -8,13 +11,16 @@ use Rattle.nc_types.specs.declared.start.Start.TheVariants.{Given}
 use Rattle.nc_journal.specs.declared.word.ModeLine.TheVariants.{Direct}
 use Rattle.nc_journal.specs.declared.word.EndedCause.TheVariants.{Answered}
 use Rattle.nc_journal.specs.declared.event.Event.{Event}
-use Rattle.nc_journal.specs.declared.event.Event.TheVariants.{Clock as ClockEvent, Subscribed, Started, Stored, Looked, Sent, Ended, Quiet}
+use Rattle.nc_journal.specs.declared.event.Event.TheVariants.{Clock as ClockEvent, Subscribed, Started, Stored, Left, Looked, Sent, Ended, Quiet}
 use Rattle.nc_journal.specs.History.{own, onto}
 use Rattle.nc_journal.specs.Stamp.{Order, StoresOrder, clock_of, floor_of, stamp, expiry}
-use Rattle.nc_journal.specs.Message.{Message, first_past}
+use Rattle.nc_journal.specs.Message.{Message, buffer}
+use Rattle.nc_journal.specs.Leaving.{is_expired}
+use Rattle.nc_journal.specs.declared.word.LeftCause.{LeftCause}
+use Rattle.nc_journal.specs.declared.word.LeftCause.TheVariants.{Length, Expired}
 use Rattle.nc_journal.specs.Standing.{Stage, Standing, stage_of, is_subscribed}
 use Rattle.nc_replay.specs.declared.line.Line.{Line}
-use Rattle.nc_replay.specs.declared.line.Line.TheVariants.{Clock, Post, Poll}
+use Rattle.nc_replay.specs.declared.line.Line.TheVariants.{Clock, Reap, Post, Poll}
 use Rattle.nc_replay.specs.Script.{Spells}
 
 -- how many messages were stored
@@ -65,6 +71,38 @@ sends_from k c id look _ = []
 abbrev pub sends_to : List ℕ → Id → List Event → ℕ → List Event
 sends_to c id h k = sends_from k c id (look_of k h) (stage_of k h)
 
+-- a name comes before another: by the first byte that differs, and a name before those that go on from it
+abbrev pub IsBefore : List ℕ → List ℕ → Type 0
+IsBefore c d = slice_cmp nat_cmp c d ≡ Less
+
+-- names in ascending order, each once
+abbrev pub AreInOrder : List (List ℕ) → Type 0
+AreInOrder [] = Unit {0}
+AreInOrder (c ∷ cs) = AllByRecursion (IsBefore c) cs × AreInOrder cs
+
+abbrev pub HasName : List (List ℕ) → List ℕ → Type 0
+HasName [] c = ⊥
+HasName (d ∷ cs) c = (d ≡ c) ⊎ HasName cs c
+
+-- a message leaves
+abbrev pub leaves : List ℕ → LeftCause → Message → Event
+leaves c cause m = Left 0 c m.id m.slot cause
+
+-- the messages of a channel that have expired, and those that stay, by the whole history and the local one
+abbrev pub expired : List ℕ → List Event → List Event → List Message
+expired c whole h = filter (is_expired (clock_of h)) (buffer c whole)
+
+abbrev pub staying : List ℕ → List Event → List Event → List Message
+staying c whole h = filter (λ m. not (is_expired (clock_of h) m)) (buffer c whole)
+
+-- those of the staying ones that leave so that one more makes at most `len`
+abbrev pub surplus : ℕ → List Message → List Message
+surplus len messages = take (length messages - (len - 1)) messages
+
+-- the channels with an expired message are among these
+abbrev pub AllExpired : List (List ℕ) → List Event → List Event → Type 0
+AllExpired cs whole h = (c : List ℕ) → (expired c whole h ≡ []) ⊎ HasName cs c
+
 -- what a post orders: the default length and time-out, and no type
 abbrev pub order_of : List ℕ → Order
 order_of body = record { len = 10; timeout = 3600; ct = None; body = body }
@@ -77,9 +115,11 @@ stored_of c order members h = Stored 0 c (stamp c h) 0 order.len (expiry (clock_
 abbrev pub StoresItsOrder : Type 0
 StoresItsOrder = (c : List ℕ) (order : Order) (members : ℕ) (h : List Event) → StoresOrder order (clock_of h) (stored_of c order members h)
 
--- the events of a post, where these subscribers stand
-abbrev pub told_post : List ℕ → List ℕ → List ℕ → List Event → List Event
-told_post c body ks h = stored_of c (order_of body) (length ks) h ∷ flat_map (sends_to c (stamp c h) h) ks ++ Quiet ∷ []
+-- the events of a post, where these subscribers stand: what has expired leaves, then the oldest beyond the length, then the message is stored and sent
+abbrev pub told_post : List ℕ → List ℕ → List ℕ → List Event → List Event → List Event
+told_post c body ks whole h =
+    map (leaves c Expired) (expired c whole h) ++ map (leaves c Length) (surplus 10 (staying c whole h))
+    ++ stored_of c (order_of body) (length ks) h ∷ flat_map (sends_to c (stamp c h) h) ks ++ Quiet ∷ []
 
 abbrev pub found_sends : ℕ → List ℕ → ℕ → Option Message → List Event
 found_sends k c look None = []
@@ -91,14 +131,15 @@ found_id found = option_map (λ m. m.id) found
 -- the events of a poll behind an id, by the whole history and the local one
 abbrev pub told_poll : ℕ → List ℕ → Id → List Event → List Event → List Event
 told_poll k c from whole h =
-    let found = first_past c from whole in
-    Subscribed 0 k None (c ∷ []) Direct (Given (cursor_of from)) 0 false ∷ Started 0 k (cursor_of from)
-    ∷ Looked 0 (polls_of h) 0 (polls_of h) c from (floor_of h) (found_id found) ∷ found_sends k c (polls_of h) found ++ Quiet ∷ []
+    let found = find (λ m. is_past m.id from) (staying c whole h) in
+    Subscribed 0 k None (c ∷ []) Direct (Given (cursor_of from)) 0 false ∷ Started 0 k (cursor_of from) ∷ map (leaves c Expired) (expired c whole h)
+    ++ Looked 0 (polls_of h) 0 (polls_of h) c from (floor_of h) (found_id found) ∷ found_sends k c (polls_of h) found ++ Quiet ∷ []
 
 -- the events that a line tells after a history
 abbrev pub Tells : List Event → Line → List Event → Type 0
 Tells h (Clock t) es = es ≡ ClockEvent 0 t ∷ Quiet ∷ []
-Tells h (Post c body) es = (ks : List ℕ) × AreStanding c (own 0 h) ks × (es ≡ told_post c body ks (own 0 h))
+Tells h Reap es = (cs : List (List ℕ)) × AreInOrder cs × AllExpired cs h (own 0 h) × (es ≡ flat_map (λ c. map (leaves c Expired) (expired c h (own 0 h))) cs ++ Quiet ∷ [])
+Tells h (Post c body) es = (ks : List ℕ) × AreStanding c (own 0 h) ks × (es ≡ told_post c body ks h (own 0 h))
 Tells h (Poll k c) es = es ≡ told_poll k c no_id h (own 0 h)
 
 -- a poll takes a number that no earlier line used

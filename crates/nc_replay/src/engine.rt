@@ -1,21 +1,31 @@
 //! The engine of the first path: one worker that does the whole work of each line at once.
 //!
-//! A channel is a plain list of ids, and of subscribers that wait.
+//! A channel has a buffer of messages and the subscribers that wait, and the channels stand in ascending order of name.
 //! Each call is a pure step, defined in `specs/Machine.antt`, over the state that contracts see.
-ghost use Rattle.std.specs.Prelude.{◌≡◌, ◌∷◌, ◌++◌, [], ◌<◌, ◌≤◌, length, IfOk, OnOk, IfSome, MatchOption, None, Some, false, position, unwrap_or, filter, not, find, slice_index, slice_set, vec_len};
+ghost use Rattle.std.specs.Prelude.{◌≡◌, ◌∷◌, ◌++◌, [], ◌<◌, ◌≤◌, length, map, IfOk, OnOk, MatchResult, None, Some, filter};
 ghost use Rattle.std.specs.List.{flat_map};
-ghost use Rattle.nc_types.specs.Id.{no_id, is_past};
+ghost use Rattle.nc_types.specs.Id.{Id, no_id, is_past};
 ghost use Rattle.nc_types.specs.Cursor.{cursor_of};
 ghost use Rattle.nc_types.specs.declared.start.Start.TheVariants.{Given};
 ghost use Rattle.nc_journal.specs.Stamp.{next_id};
-ghost use Rattle.nc_replay.specs.Told.{sends};
-ghost use Rattle.nc_replay.specs.Machine.{Fits, no_channel, channel_of, with_channel, first_id, enter, place_among, IsMissing, IsPlaceOf, IsPlaceFor, posted, polled, is_unsent, sends_waiting, begins, found_events, start, clock_events, post_events, poll_events, after_clock, after_post, after_poll};
+ghost use Rattle.nc_journal.specs.declared.event.Event.TheVariants.{Looked, Quiet};
+ghost use Rattle.nc_journal.specs.declared.word.LeftCause.TheVariants.{Length, Expired};
+ghost use Rattle.nc_buffer.specs.Buffer.{IsPastAll};
+ghost use Rattle.nc_replay.specs.Told.{sends, AreInOrder};
+ghost use Rattle.nc_replay.specs.Machine.{Fits, no_channel, first_id, enter, place_among, is_before, names_of, IsPlaceOf, IsPlaceFrom, IsPlaceFor, stored_in, shortened, touched, polled, is_unsent, expired_of, staying_of, surplus_of, within_of, entry_left, channel_left, sends_waiting, stored_events, look_events, begins, start, clock_events, post_events, poll_events, reap_events, after_clock, after_post, after_poll, after_reap};
 
-use nc_journal::{EndedCause, Event, EventList, ModeLine};
+use nc_buffer::{Buffer, Entry};
+use nc_journal::{EndedCause, Event, EventList, LeftCause, ModeLine};
 use nc_types::{Bytes, ChanList, ChanName, Cursor, List, MsgId, NoMemory, Start};
 use std::alloc::Global;
 use std::marker::Model;
 use std::mem;
+
+/// How many messages a channel keeps.
+const LENGTH: usize = 10;
+
+/// How long a message is kept, in seconds.
+const TIMEOUT: u64 = 3_600;
 
 /// A subscriber that stands behind an id, with the number of its look.
 #[derive(Clone, Copy)]
@@ -25,23 +35,24 @@ pub struct Waiting {
     pub look: u64,
 }
 
-/// What the engine keeps of a channel: the last id, the ids of its messages, and who waits there by number.
+/// What the engine keeps of a channel: the last id, its buffer, and who waits there by number.
 #[derive(Drop)]
 pub struct Channel {
     pub name: ChanName,
     pub last: MsgId,
-    pub ids: List<MsgId>,
+    pub buffer: Buffer,
     pub waiting: List<Waiting>,
 }
 
 impl Channel {
+    /// A channel that has no message and where nobody waits.
     fn new(alloc: Global, name: ChanName) -> Channel
         ensures { result ≡ no_channel name }
     {
         Channel {
             name,
             last: MsgId::NONE,
-            ids: List::new(alloc),
+            buffer: Buffer::new(alloc),
             waiting: List::new(alloc),
         }
     }
@@ -80,16 +91,65 @@ fn next_id(now: u64, last: MsgId) -> MsgId
     }
 }
 
-/// The first id past another.
-fn first_id(ids: &[MsgId], from: &MsgId) -> Option<MsgId>
-    ensures { result ≡ first_id from.now ids.now }
+/// The id of the first entry past another.
+fn first_id(buffer: &Buffer, from: &MsgId) -> Option<MsgId>
+    ensures { result ≡ first_id from.now buffer.now }
 {
-    for id in ids {
-        if id.past(from) {
-            return Some(*id);
+    let place = buffer.look(from)?;
+    Some(buffer.entry(place).id)
+}
+
+/// The leaving of an entry goes onto the events.
+fn put_left(
+    events: &mut Vec<Event>,
+    name: &ChanName,
+    entry: &Entry,
+    cause: LeftCause,
+) -> Result<(), NoMemory>
+    ensures { OnOk result (events.new.items ≡ events.old.items ++ entry_left name.now cause entry.now ∷ []) }
+{
+    events.push(Event::Left {
+        w: 0,
+        c: name.copied()?,
+        id: entry.id,
+        slot: u64::from(entry.slot),
+        cause,
+    })?;
+    Ok(())
+}
+
+/// What has expired leaves.
+fn put_expired(
+    events: &mut Vec<Event>,
+    name: &ChanName,
+    buffer: &mut Buffer,
+    now: u64,
+) -> Result<(), NoMemory>
+    ensures events { OnOk result (events.new.items ≡ events.old.items ++ map (entry_left name.now Expired) (expired_of now buffer.old)) }
+    ensures buffer { OnOk result (buffer.new ≡ staying_of now buffer.old) }
+{
+    while let Some(entry) = buffer.expire_one(now) {
+        put_left(events, name, &entry, LeftCause::Expired)?;
+    }
+    Ok(())
+}
+
+/// The oldest beyond the length less one leave.
+fn put_surplus(
+    events: &mut Vec<Event>,
+    name: &ChanName,
+    buffer: &mut Buffer,
+) -> Result<(), NoMemory>
+    ensures events { OnOk result (events.new.items ≡ events.old.items ++ map (entry_left name.now Length) (surplus_of 10 buffer.old)) }
+    ensures buffer { OnOk result (buffer.new ≡ within_of 10 buffer.old) }
+{
+    let surplus = buffer.len().saturating_sub(LENGTH - 1);
+    for _ in 0..surplus {
+        if let Some(entry) = buffer.drop_oldest() {
+            put_left(events, name, &entry, LeftCause::Length)?;
         }
     }
-    None
+    Ok(())
 }
 
 /// A subscriber that was sent its one message, and its end, go onto the events.
@@ -169,36 +229,111 @@ fn enter(waiting: &mut Vec<Waiting>, subscriber: Waiting) -> Result<(), NoMemory
     Ok(())
 }
 
-/// Where the channel of a name is kept, if it is.
-fn place_of(channels: &[Channel], name: &ChanName) -> Option<usize>
-    ensures { MatchOption result (IsMissing name.now channels.now) (IsPlaceOf name.now channels.now) }
+/// Whether a name comes before another.
+fn is_before(name: &ChanName, other: &ChanName) -> bool
+    ensures { result ≡ is_before name.now other.now }
+{
+    name.bytes.as_slice().cmp(other.bytes.as_slice()).is_lt()
+}
+
+/// The place of the channel of a name, or else the one where it belongs.
+fn place_of(channels: &[Channel], name: &ChanName) -> Result<usize, usize>
+    requires { AreInOrder (names_of channels.now) }
+    ensures { MatchResult result (IsPlaceOf name.now channels.now) (IsPlaceFrom name.now channels.now) }
 {
     for (at, channel) in channels.iter().enumerate() {
         if channel.name.is_same(name) {
-            return Some(at);
+            return Ok(at);
+        }
+        if is_before(name, &channel.name) {
+            return Err(at);
         }
     }
-    None
+    Err(channels.len())
 }
 
 /// The place of the channel of a name, which is made if it isn't there.
 fn place_for(alloc: Global, channels: &mut Vec<Channel>, name: &ChanName) -> Result<usize, NoMemory>
+    requires { AreInOrder (names_of channels.old.items) }
     ensures { IfOk result (λ at. IsPlaceFor name.now channels.old.items channels.new.items at) }
 {
-    if let Some(at) = place_of(channels, name) {
-        return Ok(at);
+    match place_of(channels, name) {
+        Ok(at) => Ok(at),
+        Err(at) => {
+            channels.insert(at, Channel::new(alloc, name.copied()?))?;
+            Ok(at)
+        }
     }
-    let at = channels.len();
-    channels.push(Channel::new(alloc, name.copied()?))?;
-    Ok(at)
+}
+
+/// What has expired in each channel leaves.
+fn touch_all(channels: &mut [Channel], events: &mut Vec<Event>, now: u64) -> Result<(), NoMemory>
+    ensures channels { OnOk result (channels.new ≡ map (touched now) channels.old) }
+    ensures events { OnOk result (events.new.items ≡ events.old.items ++ flat_map (channel_left now) channels.old) }
+{
+    for channel in channels.iter_mut() {
+        channel.touch(events, now)?;
+    }
+    Ok(())
 }
 
 impl Channel {
-    /// A message is stored.
-    fn store(&mut self, alloc: Global, id: MsgId) -> Result<(), NoMemory>
-        ensures { OnOk result (self.new ≡ posted id self.old) }
+    /// What has expired leaves.
+    fn touch(&mut self, events: &mut Vec<Event>, now: u64) -> Result<(), NoMemory>
+        ensures channel { OnOk result (self.new ≡ touched now self.old) }
+        ensures events { OnOk result (events.new.items ≡ events.old.items ++ channel_left now self.old) }
     {
-        self.ids.push(id)?;
+        put_expired(events, &self.name, &mut self.buffer, now)
+    }
+
+    /// The oldest leave that are too many for one more.
+    fn shorten(&mut self, events: &mut Vec<Event>) -> Result<(), NoMemory>
+        ensures channel { OnOk result (self.new ≡ shortened self.old) }
+        ensures events { OnOk result (events.new.items ≡ events.old.items ++ map (entry_left self.old.name Length) (surplus_of 10 self.old.buffer)) }
+    {
+        put_surplus(events, &self.name, &mut self.buffer)
+    }
+
+    /// A message, by its number among the posts, and its sends go onto the events.
+    fn put_stored(
+        &self,
+        alloc: Global,
+        events: &mut Vec<Event>,
+        id: MsgId,
+        expires: u64,
+        number: u64,
+        body: Bytes,
+    ) -> Result<(), NoMemory>
+        ensures { OnOk result (events.new.items ≡ events.old.items ++ stored_events id expires number body self.now) }
+    {
+        events.push(Event::Stored {
+            w: 0,
+            c: self.name.copied()?,
+            id,
+            slot: 0,
+            len: LENGTH as u64,
+            exp: expires,
+            kept: true,
+            members: self.waiting.len() as u64,
+            from: 0,
+            r: number,
+            ct: None,
+            body,
+        })?;
+        put_all_sends(alloc, events, self.waiting.as_slice(), &self.name, &id)
+    }
+
+    /// A message is put behind the others, and those to whom it is sent wait no longer.
+    fn store(&mut self, alloc: Global, id: MsgId, expires: u64) -> Result<(), NoMemory>
+        requires { IsPastAll id self.old.buffer }
+        ensures { OnOk result (self.new ≡ stored_in id expires self.old) }
+    {
+        self.buffer.store(Entry {
+            id,
+            slot: 0,
+            expires,
+            grants: 0,
+        })?;
         self.last = id;
         let mut waiting = mem::replace(&mut self.waiting, List::new(alloc)).into_vec();
         keep_unsent(&mut waiting, &id);
@@ -217,6 +352,7 @@ impl Channel {
     }
 }
 
+/// The same once more.
 fn same_id(id: &Option<MsgId>) -> Option<MsgId>
     ensures { result ≡ id.now }
 {
@@ -226,34 +362,46 @@ fn same_id(id: &Option<MsgId>) -> Option<MsgId>
     }
 }
 
-/// The three events of a subscriber that begins go onto the events.
+/// The two events of a subscriber that begins go onto the events.
 fn put_beginning(
     alloc: Global,
+    events: &mut Vec<Event>,
+    k: u64,
+    name: &ChanName,
+    from: &MsgId,
+) -> Result<(), NoMemory>
+    ensures { OnOk result (events.new.items ≡ events.old.items ++ begins k name.now from.now) }
+{
+    let mut names = List::new(alloc);
+    names.push(name.copied()?)?;
+    events.push(Event::Subscribed {
+        w: 0,
+        k,
+        conn: None,
+        list: ChanList { names },
+        mode: ModeLine::Direct,
+        start: Start::Given(cursor_of(alloc, from)?),
+        timeout: 0,
+        close: false,
+    })?;
+    events.push(Event::Started {
+        w: 0,
+        k,
+        cur: cursor_of(alloc, from)?,
+    })?;
+    Ok(())
+}
+
+/// The look of a subscriber goes onto the events.
+fn put_looked(
     events: &mut Vec<Event>,
     name: &ChanName,
     subscriber: &Waiting,
     floor: u64,
     found: &Option<MsgId>,
 ) -> Result<(), NoMemory>
-    ensures { OnOk result (events.new.items ≡ events.old.items ++ begins subscriber.now.k name.now subscriber.now.from subscriber.now.look floor found.now) }
+    ensures { OnOk result (events.new.items ≡ events.old.items ++ Looked 0 subscriber.now.look 0 subscriber.now.look name.now subscriber.now.from floor found.now ∷ []) }
 {
-    let mut names = List::new(alloc);
-    names.push(name.copied()?)?;
-    events.push(Event::Subscribed {
-        w: 0,
-        k: subscriber.k,
-        conn: None,
-        list: ChanList { names },
-        mode: ModeLine::Direct,
-        start: Start::Given(cursor_of(alloc, &subscriber.from)?),
-        timeout: 0,
-        close: false,
-    })?;
-    events.push(Event::Started {
-        w: 0,
-        k: subscriber.k,
-        cur: cursor_of(alloc, &subscriber.from)?,
-    })?;
     events.push(Event::Looked {
         w: 0,
         q: subscriber.look,
@@ -265,6 +413,44 @@ fn put_beginning(
         found: same_id(found),
     })?;
     Ok(())
+}
+
+impl Channel {
+    /// A subscriber looks: what it finds is sent to it, and else it waits.
+    fn look(
+        &mut self,
+        alloc: Global,
+        events: &mut Vec<Event>,
+        subscriber: Waiting,
+        floor: u64,
+    ) -> Result<(), NoMemory>
+        ensures channel { OnOk result (self.new ≡ polled subscriber (first_id subscriber.from self.old.buffer) self.old) }
+        ensures events { OnOk result (events.new.items ≡ events.old.items ++ look_events subscriber floor self.old) }
+    {
+        let found = first_id(&self.buffer, &subscriber.from);
+        put_looked(events, &self.name, &subscriber, floor, &found)?;
+        match found {
+            Some(id) => put_sends(
+                alloc,
+                events,
+                subscriber.k,
+                &self.name,
+                &id,
+                subscriber.look,
+            ),
+            None => self.wait(alloc, subscriber),
+        }
+    }
+}
+
+/// The events of a call, which end with `Quiet`.
+fn ended(mut events: Vec<Event>) -> Result<EventList, NoMemory>
+    ensures { IfOk result (λ done. done.events ≡ events.items ++ Quiet ∷ []) }
+{
+    events.push(Event::Quiet)?;
+    Ok(EventList {
+        events: List::of(events),
+    })
 }
 
 /// The engine: one worker with its clock, its floor and its channels.
@@ -308,11 +494,8 @@ impl Engine {
     {
         let mut events = Vec::new(self.alloc);
         events.push(Event::Clock { w: 0, t })?;
-        events.push(Event::Quiet)?;
         self.clock = t;
-        Ok(EventList {
-            events: List::of(events),
-        })
+        ended(events)
     }
 
     /// A message is published. After `NoMemory` the engine is only dropped.
@@ -324,35 +507,15 @@ impl Engine {
         let at = place_for(self.alloc, &mut self.channels, name)?;
         let channel = &mut self.channels[at];
         let id = next_id(self.clock.max(self.floor), channel.last);
+        let expires = self.clock + TIMEOUT;
         let mut events = Vec::new(self.alloc);
-        events.push(Event::Stored {
-            w: 0,
-            c: name.copied()?,
-            id,
-            slot: 0,
-            len: 10,
-            exp: self.clock + 3600,
-            kept: true,
-            members: channel.waiting.len() as u64,
-            from: 0,
-            r: self.posts,
-            ct: None,
-            body,
-        })?;
-        put_all_sends(
-            self.alloc,
-            &mut events,
-            channel.waiting.as_slice(),
-            name,
-            &id,
-        )?;
-        events.push(Event::Quiet)?;
-        channel.store(self.alloc, id)?;
+        channel.touch(&mut events, self.clock)?;
+        channel.shorten(&mut events)?;
+        channel.put_stored(self.alloc, &mut events, id, expires, self.posts, body)?;
+        channel.store(self.alloc, id, expires)?;
         self.floor = self.floor.max(id.time);
         self.posts += 1;
-        Ok(EventList {
-            events: List::of(events),
-        })
+        ended(events)
     }
 
     /// A direct subscriber begins behind the id `from`. After `NoMemory` the engine is only dropped.
@@ -368,25 +531,21 @@ impl Engine {
         };
         let at = place_for(self.alloc, &mut self.channels, name)?;
         let channel = &mut self.channels[at];
-        let found = first_id(channel.ids.as_slice(), &from);
         let mut events = Vec::new(self.alloc);
-        put_beginning(
-            self.alloc,
-            &mut events,
-            name,
-            &subscriber,
-            self.floor,
-            &found,
-        )?;
-        if let Some(id) = &found {
-            put_sends(self.alloc, &mut events, k, name, id, self.polls)?;
-        } else {
-            channel.wait(self.alloc, subscriber)?;
-        }
-        events.push(Event::Quiet)?;
+        put_beginning(self.alloc, &mut events, k, name, &from)?;
+        channel.touch(&mut events, self.clock)?;
+        channel.look(self.alloc, &mut events, subscriber, self.floor)?;
         self.polls += 1;
-        Ok(EventList {
-            events: List::of(events),
-        })
+        ended(events)
+    }
+
+    /// The expired messages of all channels leave. After `NoMemory` the engine is only dropped.
+    pub fn reap(&mut self) -> Result<EventList, NoMemory>
+        ensures state { OnOk result (self.new ≡ after_reap self.old) }
+        ensures events { IfOk result (λ done. done.events ≡ reap_events self.old) }
+    {
+        let mut events = Vec::new(self.alloc);
+        touch_all(&mut self.channels, &mut events, self.clock)?;
+        ended(events)
     }
 }

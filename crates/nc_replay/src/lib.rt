@@ -1,6 +1,6 @@
 //! The replay: a script comes in, its lines are made, and the journal goes out.
 //!
-//! Below stand `nc_types`, `nc_outside` and `nc_journal`; above stands the program.
+//! Below stand `nc_types`, `nc_outside`, `nc_journal` and `nc_buffer`; above stands the program.
 #![tactic(auto)]
 
 mod command;

@@ -6,6 +6,8 @@ use nc_types::{Bytes, ChanName};
 pub enum Line {
     /// The worker's clock reads `t` seconds.
     Clock { t: u64 },
+    /// The expired messages of all channels leave.
+    Reap,
     /// A message is published on a channel.
     Post { name: ChanName, body: Bytes },
     /// A direct subscriber of a channel asks for the first message.

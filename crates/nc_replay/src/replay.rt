@@ -82,6 +82,7 @@ fn make(engine: &mut Engine, used: &mut Vec<u64>, line: Line) -> Result<EventLis
 {
     match line {
         Line::Clock { t } => engine.set_clock(t),
+        Line::Reap => engine.reap(),
         Line::Post { name, body } => engine.post(&name, body),
         Line::Poll { k, name } => {
             used.push(k)?;

@@ -218,5 +218,8 @@ pub fn read_line(alloc: Global, text: &[u8]) -> Result<Option<Line>, NoMemory>
     if let Some(rest) = behind(text, b"poll 0 ") {
         return read_poll(alloc, rest);
     }
+    if text == b"reap 0".as_slice() {
+        return Ok(Some(Line::Reap));
+    }
     Ok(None)
 }

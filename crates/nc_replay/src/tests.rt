@@ -8,12 +8,13 @@ use nc_types::{List, NoMemory};
 use std::alloc::Global;
 use std::test::Fail;
 
-/// What a text says: `T`, `NAME=BODY` or `K@NAME`, and `-` where it is out of form.
+/// What a text says: `T`, `*` for a reap, `NAME=BODY` or `K@NAME`, and `-` where it is out of form.
 fn told(alloc: Global, text: &str) -> Result<Vec<u8>, NoMemory> {
     let mut told = Vec::new(alloc);
     match read_line(alloc, text.as_bytes())? {
         None => told.push(b'-')?,
         Some(Line::Clock { t }) => put_decimal(&mut told, t)?,
+        Some(Line::Reap) => told.push(b'*')?,
         Some(Line::Post { name, body }) => {
             told.extend_from_slice(name.bytes.as_slice())?;
             told.push(b'=')?;
@@ -43,6 +44,10 @@ fn lines(rt: HostRuntime) -> Result<(), Fail> {
         (" clock 0 7", "-"),
         ("Clock 0 7", "-"),
         ("clock 0 +7", "-"),
+        ("reap 0", "*"),
+        ("reap 0 ", "-"),
+        ("reap 1", "-"),
+        ("reap", "-"),
         ("post 0 a \"\"", "a="),
         (
             "post 0 Room9 \"two words, 0:- ~\"",

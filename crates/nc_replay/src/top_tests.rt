@@ -116,12 +116,112 @@ ended w=0 k=65535 cause=answered
 quiet
 ";
 
+/// What expires one second later, and what has expired.
+const HOUR: &str = "\
+---
+clock 0 100
+post 0 a \"x\"
+clock 0 3699
+poll 0 1 a 0:-
+clock 0 3700
+poll 0 2 a 0:-
+";
+
+const HOUR_JOURNAL: &str = "\
+clock w=0 t=100
+quiet
+stored w=0 c=\"a\" id=100:0 slot=0 len=10 exp=3700 kept=1 members=0 from=0 r=0 ct=- body=\"x\"
+quiet
+clock w=0 t=3699
+quiet
+subscribed w=0 k=1 conn=- list=\"a\" mode=direct start=0:- timeout=0 close=0
+started w=0 k=1 cur=0:-
+looked w=0 q=0 from=0 no=0 c=\"a\" after=0:- floor=100 found=100:0
+sent w=0 k=1 i=0 c=\"a\" id=100:0 cur=100:0 looks=0
+ended w=0 k=1 cause=answered
+quiet
+clock w=0 t=3700
+quiet
+subscribed w=0 k=2 conn=- list=\"a\" mode=direct start=0:- timeout=0 close=0
+started w=0 k=2 cur=0:-
+left w=0 c=\"a\" id=100:0 slot=0 cause=expired
+looked w=0 q=1 from=0 no=1 c=\"a\" after=0:- floor=100 found=-
+quiet
+";
+
+/// A message that expires before the one in front of it, since the clock went back, and which a later clock doesn't
+/// bring back.
+const YOUNGER_FIRST: &str = "\
+---
+clock 0 100
+post 0 a \"x\"
+clock 0 90
+post 0 a \"y\"
+clock 0 3690
+reap 0
+clock 0 90
+post 0 a \"z\"
+";
+
+const YOUNGER_FIRST_JOURNAL: &str = "\
+clock w=0 t=100
+quiet
+stored w=0 c=\"a\" id=100:0 slot=0 len=10 exp=3700 kept=1 members=0 from=0 r=0 ct=- body=\"x\"
+quiet
+clock w=0 t=90
+quiet
+stored w=0 c=\"a\" id=100:1 slot=0 len=10 exp=3690 kept=1 members=0 from=0 r=1 ct=- body=\"y\"
+quiet
+clock w=0 t=3690
+quiet
+left w=0 c=\"a\" id=100:1 slot=0 cause=expired
+quiet
+clock w=0 t=90
+quiet
+stored w=0 c=\"a\" id=100:2 slot=0 len=10 exp=3690 kept=1 members=0 from=0 r=2 ct=- body=\"z\"
+quiet
+";
+
+/// Channels that were made in another order than that of their names.
+const REAP: &str = "\
+---
+post 0 b \"\"
+post 0 a \"\"
+post 0 ab \"\"
+post 0 B \"\"
+clock 0 3600
+reap 0
+reap 0
+";
+
+const REAP_JOURNAL: &str = "\
+stored w=0 c=\"b\" id=0:0 slot=0 len=10 exp=3600 kept=1 members=0 from=0 r=0 ct=- body=\"\"
+quiet
+stored w=0 c=\"a\" id=0:0 slot=0 len=10 exp=3600 kept=1 members=0 from=0 r=1 ct=- body=\"\"
+quiet
+stored w=0 c=\"ab\" id=0:0 slot=0 len=10 exp=3600 kept=1 members=0 from=0 r=2 ct=- body=\"\"
+quiet
+stored w=0 c=\"B\" id=0:0 slot=0 len=10 exp=3600 kept=1 members=0 from=0 r=3 ct=- body=\"\"
+quiet
+clock w=0 t=3600
+quiet
+left w=0 c=\"B\" id=0:0 slot=0 cause=expired
+left w=0 c=\"a\" id=0:0 slot=0 cause=expired
+left w=0 c=\"ab\" id=0:0 slot=0 cause=expired
+left w=0 c=\"b\" id=0:0 slot=0 cause=expired
+quiet
+quiet
+";
+
 #[test]
 fn journals(rt: HostRuntime) -> Result<(), Fail> {
     for (script, journal) in [
         (SCRIPT, JOURNAL),
         (WAITING, WAITING_JOURNAL),
         (BACKWARD, BACKWARD_JOURNAL),
+        (HOUR, HOUR_JOURNAL),
+        (YOUNGER_FIRST, YOUNGER_FIRST_JOURNAL),
+        (REAP, REAP_JOURNAL),
         ("---", ""),
         ("---\n", ""),
     ] {
@@ -129,6 +229,37 @@ fn journals(rt: HostRuntime) -> Result<(), Fail> {
         assert_eq!(rt; status, 0, "{script}");
         assert_eq!(rt; out.bytes(), journal.as_bytes(), "{script}");
     }
+    Ok(())
+}
+
+const ELEVEN_END: &str = "\
+subscribed w=0 k=1 conn=- list=\"a\" mode=direct start=0:- timeout=0 close=0
+started w=0 k=1 cur=0:-
+looked w=0 q=0 from=0 no=0 c=\"a\" after=0:- floor=100 found=100:1
+sent w=0 k=1 i=0 c=\"a\" id=100:1 cur=100:1 looks=0
+ended w=0 k=1 cause=answered
+quiet
+";
+
+#[test]
+fn eleven_posts(rt: HostRuntime) -> Result<(), Fail> {
+    let alloc = rt.alloc();
+    let posts = "post 0 a \"\"\n".repeat(alloc, 11)?;
+    let script = format!(in alloc; "---\nclock 0 100\n{posts}poll 0 1 a 0:-\n")?;
+    let mut journal = String::from_str(alloc, "clock w=0 t=100\nquiet\n")?;
+    for post in 0..11 {
+        if post == 10 {
+            journal.push_str("left w=0 c=\"a\" id=100:0 slot=0 cause=length\n")?;
+        }
+        let stored = format!(in alloc;
+            "stored w=0 c=\"a\" id=100:{post} slot=0 len=10 exp=3700 kept=1 members=0 from=0 r={post} ct=- body=\"\"\nquiet\n"
+        )?;
+        journal.push_str(&stored)?;
+    }
+    journal.push_str(ELEVEN_END)?;
+    let (status, out) = replayed(alloc, &script)?;
+    assert_eq!(rt; status, 0);
+    assert_eq!(rt; out.bytes(), journal.as_bytes());
     Ok(())
 }
 
@@ -210,6 +341,9 @@ fn faults(rt: HostRuntime) -> Result<(), Fail> {
         "poll 0 2 a 0:0",
         "poll 0 1 b 0:-",
         "poll 0 001 a 0:-",
+        "reap",
+        "reap 1",
+        "reap 0 a",
     ] {
         let script = format!(in alloc; "{SCRIPT}{line}\nclock 0 7\n")?;
         let journal = format!(in alloc; "{JOURNAL}fault line=5\n")?;

@@ -1,5 +1,5 @@
-use Rattle.nc_replay.proofs.Channels.{NoneBefore}
+use Rattle.nc_replay.proofs.Channels.{ArePassed}
 use Rattle.nc_replay.proofs.engine.place_of.Given as goal
 
 abbrev pub invariant-loop-at : goal.invariant-loop-at
-invariant-loop-at l = NoneBefore l.name l.at l.channels
+invariant-loop-at l = ArePassed l.name l.at l.channels

@@ -3,7 +3,7 @@ use Rattle.std.specs.List.{after_first}
 use Rattle.nc_replay.specs.Script.{lines_of}
 use Rattle.nc_replay.specs.Input.{Adds, AddsPrefix}
 use Rattle.nc_replay.specs.Run.{SaysNew}
-use Rattle.nc_replay.proofs.Loop.{made-next, made-whole, made-fault, made-some, made-cut, always-err, finds-none, finds-some, text-made, made-begins, made-as}
+use Rattle.nc_replay.proofs.Loop.{made-fits, made-next, made-whole, made-fault, made-some, made-cut, always-err, finds-none, finds-some, text-made, made-begins, made-as}
 use Rattle.nc_replay.proofs.replay.replay_lines.Goals as goal
 
 pub loop-rest-init : goal.loop-rest-init
@@ -59,3 +59,6 @@ pub returns-clause-all : goal.returns-clause-all
 returns-clause-all g c =
     let none : length c.loop-rest.rest.now ≡ 0 = omega arith in
     made-whole _ _ _ _ _ _ _ _ none c.loop-rest.invariant.made
+
+pub make-requires : goal.make-requires
+make-requires g c = made-fits _ _ _ _ _ _ _ _ c.requires c.loop-rest.invariant.made
