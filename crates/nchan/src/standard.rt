@@ -1,7 +1,7 @@
 //! The real source and sink: any reader and any writer of std, with counts of their faults.
 //!
 //! They tell nothing of the bytes that they carry, since nothing is proved of what a stream holds.
-ghost use Rattle.std.specs.Prelude.{None};
+ghost use Rattle.std.specs.Prelude.{None, ◌≡◌};
 
 use nc_outside::{Failed, Sink, Source};
 use std::io::{Read, Write};
@@ -14,7 +14,10 @@ pub struct StdSource<R: Read + Drop> {
 }
 
 impl<R: Read + Drop> StdSource<R> {
-    pub fn new(reader: R) -> StdSource<R> {
+    /// A source over a reader, without a fault so far.
+    pub fn new(reader: R) -> StdSource<R>
+        ensures { result.faults ≡ 0 }
+    {
         StdSource { reader, faults: 0 }
     }
 }
@@ -44,7 +47,11 @@ pub struct StdSink<W: Write + Drop> {
 }
 
 impl<W: Write + Drop> StdSink<W> {
-    pub fn new(writer: W) -> StdSink<W> {
+    /// A sink over a writer, without a fault or a refusal so far.
+    pub fn new(writer: W) -> StdSink<W>
+        ensures faults { result.faults ≡ 0 }
+        ensures refusals { result.refusals ≡ 0 }
+    {
         StdSink {
             writer,
             faults: 0,
