@@ -1,1 +1,4 @@
 mod Tags
+mod Decimal
+mod Pieces
+mod UnquoteLaws

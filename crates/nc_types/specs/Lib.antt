@@ -1,4 +1,6 @@
 pub mod Id
 pub mod Cursor
 pub mod Channel
+pub mod Message
 pub mod Text
+pub mod Unquote

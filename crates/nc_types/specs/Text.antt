@@ -1,6 +1,14 @@
--- Bytes between quotation marks.
-use Rattle.std.specs.Prelude.{ℕ, ◌+◌, ◌/◌, ◌%◌, List, [], ◌∷◌, ◌++◌, if◌then◌else◌, ◌==◌, ◌&&◌, nat_le, nat_lt}
+-- Numbers in decimal, and bytes between quotation marks.
+use Rattle.std.specs.Prelude.{◌≡◌, ◌<◌, ◌≤◌, length, ℕ, ◌+◌, ◌/◌, ◌%◌, List, [], ◌∷◌, ◌++◌, if◌then◌else◌, ◌==◌, ◌&&◌, nat_le, nat_lt}
 use Rattle.std.specs.List.{flat_map}
+use Rattle.std.specs.Str.Parse.{AllDigits, digits_value}
+
+-- a text is 1 to 20 decimal digits of this value, which may pass 2^64
+pub record IsDecimal (text : List ℕ) (n : ℕ) : Type 0 where
+  pub some : 0 < length text
+  pub short : length text ≤ 20
+  pub digits : AllDigits 10 text
+  pub value : n ≡ digits_value 10 text
 
 -- a digit of base 16, with lower-case letters
 abbrev pub hex_digit : ℕ → ℕ

@@ -8,15 +8,19 @@ mod channel;
 mod cursor;
 mod id;
 mod info;
+pub mod laws;
 mod list;
+mod message;
 mod start;
 #[cfg(test)]
 mod tests;
 pub mod text;
+mod unquote;
 
 pub use channel::{ChanList, ChanName};
 pub use cursor::Cursor;
 pub use id::{GREATEST_TIME, MsgId};
 pub use info::{FullLine, Info};
 pub use list::{Bytes, List, NoMemory};
+pub use message::Msg;
 pub use start::Start;

@@ -2,7 +2,7 @@
 ghost use Rattle.std.specs.Prelude.{◌≡◌, length, IfOk};
 ghost use Rattle.nc_types.specs.Id.{IsTime, IsTag};
 
-use crate::text::{decimal, put_decimal, put_quoted, quote};
+use crate::text::{UnquoteFault, decimal, put_decimal, put_quoted, quote, read_decimal, unquote};
 use crate::{ChanName, Cursor, List, MsgId, NoMemory};
 use std::alloc::Global;
 use std::test::Fail;
@@ -137,4 +137,62 @@ fn quotes(rt: HostRuntime) -> Result<(), Fail> {
     put_quoted(&mut out, b"\n")?;
     assert_eq!(rt; out.as_slice(), b"\"a\"\"\\n\"".as_slice());
     Ok(())
+}
+
+#[test]
+fn decimals_read(rt: HostRuntime) {
+    for (text, limit, number) in [
+        (b"0".as_slice(), 0u64, Some(0u64)),
+        (b"007", 7, Some(7)),
+        (b"8", 7, None),
+        (b"00000000000000000012", 99, Some(12)),
+        (b"000000000000000000012", 99, None),
+        (b"18446744073709551615", u64::MAX, Some(u64::MAX)),
+        (b"18446744073709551616", u64::MAX, None),
+        (b"99999999999999999999", u64::MAX, None),
+        (b"", 9, None),
+        (b"+1", 9, None),
+        (b"1a", 99, None),
+    ] {
+        assert_eq!(rt; read_decimal(text, limit), number, "{text:?} up to {limit}");
+    }
+}
+
+#[test]
+fn quotes_read(rt: HostRuntime) -> Result<(), Fail> {
+    let alloc = rt.alloc();
+    for (text, bytes) in [
+        (b"\"\"".as_slice(), b"".as_slice()),
+        (b"\"\\\"\\\\\\n\\r\\t\"", b"\"\\\n\r\t"),
+        (b"\"\\x4a\\x4A\\xfF\\x00\"", b"JJ\xFF\x00"),
+        (b"\"a\n\xFF\"", b"a\n\xFF"),
+    ] {
+        assert_eq!(rt; unquote(alloc, text)?.as_slice(), bytes, "{text:?}");
+        let written = quote(alloc, bytes)?;
+        assert_eq!(rt; unquote(alloc, written.as_slice())?.as_slice(), bytes);
+    }
+    Ok(())
+}
+
+#[test]
+fn quotes_refused(rt: HostRuntime) {
+    let alloc = rt.alloc();
+    for (text, place) in [
+        (b"".as_slice(), 0usize),
+        (b"a\"", 0),
+        (b"\"a\\q\"", 2),
+        (b"\"a\\", 2),
+        (b"\"a\\x4", 2),
+        (b"\"a\\x4g\"", 2),
+        (b"\"a\\X41\"", 2),
+        (b"\"a\"b", 3),
+        (b"\"a\"\"", 3),
+        (b"\"ab", 3),
+        (b"\"", 1),
+    ] {
+        match unquote(alloc, text) {
+            Err(UnquoteFault::Bad { at }) => assert_eq!(rt; at, place, "{text:?}"),
+            _ => assert!(rt; false, "{text:?} is refused"),
+        }
+    }
 }

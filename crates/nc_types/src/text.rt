@@ -1,11 +1,13 @@
 //! Numbers in decimal, and bytes between quotation marks.
 //!
 //! The journal writes both; docs/JOURNAL.md says how they read.
-ghost use Rattle.std.specs.Prelude.{◌≡◌, ◌+◌, ◌∷◌, ◌++◌, [], ◌<◌, IfOk, OnOk};
+ghost use Rattle.std.specs.Prelude.{◌≡◌, ◌+◌, ◌∷◌, ◌++◌, [], ◌<◌, IfOk, OnOk, IfSome, IfNone, ◌≤◌, ℕ};
 ghost use Rattle.std.specs.Fmt.{decimal};
-ghost use Rattle.nc_types.specs.Text.{hex_digit, quoted_byte, quoted};
+ghost use Rattle.std.specs.Char.{digit_value};
+ghost use Rattle.nc_types.specs.Text.{IsDecimal, hex_digit, quoted_byte, quoted};
 
 use crate::list::{Bytes, List, NoMemory};
+pub use crate::unquote::{UnquoteFault, unquote};
 use std::alloc::Global;
 
 fn put_digit(out: &mut Vec<u8>, digit: u8) -> Result<(), NoMemory>
@@ -34,6 +36,33 @@ pub fn decimal(alloc: Global, n: u64) -> Result<Bytes, NoMemory>
     let mut out = Vec::new(alloc);
     put_decimal(&mut out, n)?;
     Ok(List::of(out))
+}
+
+/// The digit that a byte is.
+fn digit_of(byte: u8) -> Option<u64>
+    ensures some { IfSome result (λ digit. (digit ≡ digit_value byte) × (digit < 10)) }
+    ensures none { IfNone result (10 ≤ digit_value byte) }
+{
+    match byte {
+        b'0'..=b'9' => Some(u64::from(byte - b'0')),
+        _ => None,
+    }
+}
+
+/// The number that a text of 1 to 20 decimal digits stands for, where it is at most `limit`; leading zeros count for nothing.
+pub fn read_decimal(text: &[u8], limit: u64) -> Option<u64>
+    ensures some { IfSome result (λ n. IsDecimal text.now n × (n ≤ limit)) }
+    ensures none { IfNone result ((n : ℕ) → IsDecimal text.now n → n ≤ limit → ⊥) }
+{
+    if text.is_empty() || text.len() > 20 {
+        return None;
+    }
+    let mut value = 0u64;
+    for byte in text {
+        let digit = digit_of(*byte)?;
+        value = value.checked_mul(10)?.checked_add(digit)?;
+    }
+    if value <= limit { Some(value) } else { None }
 }
 
 fn hex_digit(n: u8) -> u8
