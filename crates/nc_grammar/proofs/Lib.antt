@@ -1,0 +1,14 @@
+pub mod Split
+pub mod Exact
+pub mod Seq
+pub mod Number
+pub mod Digits
+pub mod Label
+pub mod Word
+pub mod Rows
+pub mod Whole
+pub mod Maybe
+pub mod More
+pub mod Quoted
+pub mod Two
+pub mod Forms

@@ -1,0 +1,10 @@
+pub mod Reading
+pub mod Exact
+pub mod Gives
+pub mod Number
+pub mod Digits
+pub mod Label
+pub mod Quoted
+pub mod Rows
+pub mod Whole
+pub mod Maybe
