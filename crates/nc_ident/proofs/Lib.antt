@@ -1,0 +1,4 @@
+pub mod Tag
+pub mod Tags
+pub mod Pieces
+pub mod WrittenSpells
