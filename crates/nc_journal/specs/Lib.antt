@@ -9,3 +9,12 @@ pub mod Field
 pub mod Line
 pub mod Text
 pub mod Leaving
+pub mod Fit
+pub mod ValueReader
+pub mod NameReader
+pub mod PlaceReader
+pub mod Shape
+pub mod WordTable
+pub mod AlertTable
+pub mod EventTable
+pub mod BadLine

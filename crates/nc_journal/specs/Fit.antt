@@ -1,0 +1,98 @@
+-- The events that there are: what each field of an event keeps.
+use Rattle.std.specs.Prelude.{ℕ, ◌<◌, ◌≤◌, List, length}
+use Rattle.std.specs.List.{AllByRecursion}
+use Rattle.nc_types.specs.Id.{Id, IsTime, IsTag}
+use Rattle.nc_types.specs.Cursor.{CursorAt, AreTags}
+use Rattle.nc_types.specs.Channel.{AreDistinct}
+use Rattle.nc_types.specs.declared.info.Info.{Info as InfoOf}
+use Rattle.nc_types.specs.declared.info.FullLine.{FullLine}
+use Rattle.nc_types.specs.declared.start.Start.{Start}
+use Rattle.nc_types.specs.declared.start.Start.TheVariants.{Oldest, Newest, Given}
+use Rattle.nc_grammar.specs.Quoted.{AreBytes}
+use Rattle.nc_grammar.specs.Maybe.{OrNone}
+use Rattle.nc_journal.specs.declared.event.Event.{Event}
+use Rattle.nc_journal.specs.declared.event.Event.TheVariants.{Clock, Opened, Got, Asked, Answered, Subscribed, Started, Joined, Parted, Raised, Stored, Left, Looked, Edged, Granted, Released, Freed, Removed, Sent, Ended, Replied, Wrote, Shut, Made, Took, Pending, Quiet}
+use Rattle.nc_journal.specs.declared.alert.AlertLine.{AlertLine}
+use Rattle.nc_journal.specs.declared.alert.AlertLine.TheVariants as alerts
+
+-- a number of 64 bits
+abbrev pub IsU64 : ℕ → Type 0
+IsU64 n = n ≤ 18446744073709551615
+
+abbrev pub AreNumbers : List ℕ → Type 0
+AreNumbers numbers = AllByRecursion IsU64 numbers
+
+pub record IsId (id : Id) : Type 0 where
+  pub time : IsTime id.time
+  pub tag : IsTag id.tag
+
+pub record IsCursor (cursor : CursorAt) : Type 0 where
+  pub time : IsTime cursor.time
+  pub some : 0 < length cursor.tags
+  pub tags : AreTags cursor.tags
+
+abbrev pub IsStart : Start → Type 0
+IsStart Oldest = Unit {0}
+IsStart Newest = Unit {0}
+IsStart (Given cursor) = IsCursor cursor
+
+-- a list has a name, and none twice
+pub record IsList (names : List (List ℕ)) : Type 0 where
+  pub some : 0 < length names
+  pub distinct : AreDistinct names
+  pub bytes : AllByRecursion AreBytes names
+
+pub record IsInfo (info : InfoOf) : Type 0 where
+  pub messages : info.messages ≤ 4294967295
+  pub members : IsU64 info.members
+  pub last : OrNone IsId info.last
+
+pub record IsFull (full : FullLine) : Type 0 where
+  pub buffered : IsU64 full.buffered
+  pub held : IsU64 full.held
+
+abbrev pub AlertFits : AlertLine → Type 0
+AlertFits (alerts.Publish r c len timeout ct body) = IsU64 r × AreBytes c × IsU64 len × IsU64 timeout × OrNone AreBytes ct × AreBytes body
+AlertFits (alerts.PubAnswer r status info full) = IsU64 r × IsU64 status × OrNone IsInfo info × OrNone IsFull full
+AlertFits (alerts.Look number c after fence) = IsU64 number × AreBytes c × IsId after × IsU64 fence
+AlertFits (alerts.LookAnswer number q floor found g slot) = IsU64 number × IsU64 q × IsU64 floor × OrNone IsId found × OrNone IsU64 g × OrNone IsU64 slot
+AlertFits (alerts.Notice c id g slot) = AreBytes c × IsId id × IsU64 g × IsU64 slot
+AlertFits (alerts.Edge number k c fence) = IsU64 number × IsU64 k × AreBytes c × IsU64 fence
+AlertFits (alerts.EdgeAnswer number q floor last) = IsU64 number × IsU64 q × IsU64 floor × IsId last
+AlertFits (alerts.Join c k) = AreBytes c × IsU64 k
+AlertFits (alerts.Part c k) = AreBytes c × IsU64 k
+AlertFits (alerts.Delete r c) = IsU64 r × AreBytes c
+AlertFits (alerts.DelAnswer r status info) = IsU64 r × IsU64 status × OrNone IsInfo info
+AlertFits (alerts.Gone c subs) = AreBytes c × AreNumbers subs
+AlertFits (alerts.Info r c) = IsU64 r × AreBytes c
+AlertFits (alerts.InfoAnswer r status info) = IsU64 r × IsU64 status × OrNone IsInfo info
+
+-- each number is one of 64 bits, each time, tag, name and list is one of its type, and the place of a sent is below the number of tags
+abbrev pub Fits : Event → Type 0
+Fits (Clock w t) = IsU64 w × IsU64 t
+Fits (Opened w conn) = IsU64 w × IsU64 conn
+Fits (Got w conn bytes) = IsU64 w × IsU64 conn × AreBytes bytes
+Fits (Asked w r conn act list status rule) = IsU64 w × IsU64 r × OrNone IsU64 conn × OrNone IsList list × IsU64 status × IsU64 rule
+Fits (Answered w r conn status info json close) = IsU64 w × IsU64 r × OrNone IsU64 conn × IsU64 status × OrNone IsInfo info
+Fits (Subscribed w k conn list mode start timeout close) = IsU64 w × IsU64 k × OrNone IsU64 conn × IsList list × IsStart start × IsU64 timeout
+Fits (Started w k cur) = IsU64 w × IsU64 k × IsCursor cur
+Fits (Joined w c from k) = IsU64 w × AreBytes c × IsU64 from × IsU64 k
+Fits (Parted w c from k) = IsU64 w × AreBytes c × IsU64 from × IsU64 k
+Fits (Raised w t) = IsU64 w × IsU64 t
+Fits (Stored w c id slot len exp kept members from r ct body) = IsU64 w × AreBytes c × IsId id × IsU64 slot × IsU64 len × IsU64 exp × IsU64 members × IsU64 from × IsU64 r × OrNone AreBytes ct × AreBytes body
+Fits (Left w c id slot cause) = IsU64 w × AreBytes c × IsId id × IsU64 slot
+Fits (Looked w q from number c after floor found) = IsU64 w × IsU64 q × IsU64 from × IsU64 number × AreBytes c × IsId after × IsU64 floor × OrNone IsId found
+Fits (Edged w q from number k c floor last) = IsU64 w × IsU64 q × IsU64 from × IsU64 number × IsU64 k × AreBytes c × IsU64 floor × IsId last
+Fits (Granted w g slot to) = IsU64 w × IsU64 g × IsU64 slot × IsU64 to
+Fits (Released w owner g slot) = IsU64 w × IsU64 owner × IsU64 g × IsU64 slot
+Fits (Freed w slot) = IsU64 w × IsU64 slot
+Fits (Removed w c last cause) = IsU64 w × AreBytes c × IsId last
+Fits (Sent w k i c id cur looks) = IsU64 w × IsU64 k × IsU64 i × AreBytes c × IsId id × IsCursor cur × (i < length cur.tags) × AreNumbers looks
+Fits (Ended w k cause) = IsU64 w × IsU64 k
+Fits (Replied w conn bytes) = IsU64 w × IsU64 conn × AreBytes bytes
+Fits (Wrote w conn bytes) = IsU64 w × IsU64 conn × AreBytes bytes
+Fits (Shut w conn cause) = IsU64 w × IsU64 conn
+Fits (Made w to n a) = IsU64 w × IsU64 to × IsU64 n × AlertFits a
+Fits (Took w from n a) = IsU64 w × IsU64 from × IsU64 n
+Fits (Pending n) = IsU64 n
+Fits Quiet = Unit {0}

@@ -1,0 +1,79 @@
+//! Lists of channels, in which no name stands twice.
+ghost use Rattle.std.specs.Prelude.{◌≡◌, ◌<◌, ◌++◌, ◌∷◌, [], length, OnOk};
+ghost use Rattle.nc_types.specs.Channel.{AreDistinct};
+ghost use Rattle.nc_grammar.specs.Gives.{Gives, GivesBy};
+ghost use Rattle.nc_grammar.specs.Reading.{map_read};
+ghost use Rattle.nc_grammar.specs.Label.{field_at};
+ghost use Rattle.nc_grammar.specs.Maybe.{option_at};
+ghost use Rattle.nc_journal.specs.NameReader.{is_among, new_name_at, list_at};
+
+use nc_grammar::{Fault, Reader};
+use nc_types::{ChanList, ChanName, List};
+use std::alloc::Global;
+
+/// Whether a name stands among some.
+fn is_among(name: &[u8], names: &[ChanName]) -> bool
+    ensures { result ≡ is_among name.now names.now }
+{
+    for other in names {
+        if name == other.bytes.as_slice() {
+            return true;
+        }
+    }
+    false
+}
+
+/// Puts a name behind others that are none of it.
+///
+/// A repeated one is stuck in front of its closing sign: with more bytes it would be another.
+fn push_new_name<'t>(
+    alloc: Global,
+    reader: &mut Reader<'t>,
+    names: &mut List<ChanName>,
+) -> Result<(), Fault>
+    ensures read { GivesBy (λ u. names.new) reader.new result (map_read (λ name. names.old ++ name ∷ []) (new_name_at names.old reader.old)) }
+    ensures distinct { OnOk result (AreDistinct names.old → (0 < length names.new) × AreDistinct names.new) }
+{
+    let start = reader.rest();
+    let bytes = reader.quoted(alloc)?;
+    if is_among(bytes.as_slice(), names.as_slice()) {
+        let read = start.len() - reader.left();
+        *reader = Reader::new(&start[read - 1..]);
+        return Err(Fault::Stuck);
+    }
+    names.push(ChanName { bytes })?;
+    Ok(())
+}
+
+fn any_list(alloc: Global, reader: &mut Reader<'_>) -> Result<ChanList, Fault>
+    ensures { Gives reader.new result (list_at reader.old) }
+{
+    let mut names = List::new(alloc);
+    push_new_name(alloc, reader, &mut names)?;
+    while reader.takes(b',') {
+        push_new_name(alloc, reader, &mut names)?;
+    }
+    Ok(ChanList { names })
+}
+
+pub(crate) fn list(alloc: Global, reader: &mut Reader<'_>, label: &[u8]) -> Result<ChanList, Fault>
+    ensures { Gives reader.new result (field_at label.now list_at reader.old) }
+{
+    reader.label(label)?;
+    any_list(alloc, reader)
+}
+
+pub(crate) fn optional_list(
+    alloc: Global,
+    reader: &mut Reader<'_>,
+    label: &[u8],
+) -> Result<Option<ChanList>, Fault>
+    ensures { Gives reader.new result (field_at label.now (option_at list_at) reader.old) }
+{
+    reader.label(label)?;
+    if reader.takes(b'-') {
+        return Ok(None);
+    }
+    let list = any_list(alloc, reader)?;
+    Ok(Some(list))
+}
