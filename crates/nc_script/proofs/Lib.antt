@@ -1,0 +1,6 @@
+mod Words
+mod Judging
+mod Number
+mod Sure
+mod Parts
+mod Lines

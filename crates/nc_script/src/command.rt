@@ -1,0 +1,10 @@
+//! The first words of lines.
+
+/// What a line begins with.
+#[derive(Clone, Copy, Debug, PartialEq, Eq)]
+pub enum Command {
+    Clock,
+    Reap,
+    Post,
+    Poll,
+}
