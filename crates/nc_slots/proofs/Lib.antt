@@ -1,0 +1,5 @@
+pub mod First
+pub mod Held
+pub mod PlainRows
+pub mod Runs
+pub mod Shown
