@@ -1,0 +1,7 @@
+pub mod Bytes
+pub mod Cut
+pub mod Fillers
+pub mod Quoted
+pub mod Found
+pub mod Right
+pub mod Readings

@@ -1,0 +1,4 @@
+pub mod Byte
+pub mod Spelling
+pub mod Reading
+pub mod Scan
