@@ -4,3 +4,5 @@ pub mod Channel
 pub mod Message
 pub mod Text
 pub mod Unquote
+pub mod Settings
+pub mod Config

@@ -5,12 +5,15 @@
 #![tactic(auto)]
 
 mod channel;
+mod config;
 mod cursor;
 mod id;
 mod info;
 pub mod laws;
 mod list;
 mod message;
+mod request;
+mod settings;
 mod start;
 #[cfg(test)]
 mod tests;
@@ -18,9 +21,12 @@ pub mod text;
 mod unquote;
 
 pub use channel::{ChanList, ChanName};
+pub use config::{Config, IdPart, IdText, Listen, Location};
 pub use cursor::Cursor;
 pub use id::{GREATEST_TIME, MsgId};
 pub use info::{FullLine, Info};
 pub use list::{Bytes, List, NoMemory};
 pub use message::Msg;
+pub use request::{Allow, Field, Request};
+pub use settings::Settings;
 pub use start::Start;
