@@ -4,6 +4,7 @@ use Rattle.std.specs.List.{flat_map}
 use Rattle.std.proofs.lemmas.List.{append-nil}
 use Rattle.nc_types.specs.Id.{Id, IsPast}
 use Rattle.nc_types.specs.Cursor.{cursor_of}
+use Rattle.nc_types.specs.declared.start.Start.{Start}
 use Rattle.nc_journal.specs.Stamp.{next_id}
 use Rattle.nc_journal.specs.declared.event.Event.{Event}
 use Rattle.nc_journal.specs.declared.event.Event.TheVariants.{Looked, Quiet}
@@ -54,11 +55,11 @@ look-told w floor x found before looked all is one two = rw (two, one, is) (appe
 look-named : (c : List ℕ) (w : Waiting) (floor : ℕ) (x : Channel) → x.name ≡ c → look_events w floor x ≡ Looked 0 w.look 0 w.look c w.from floor (first_id w.from x.buffer) ∷ found_events w.k c w.look (first_id w.from x.buffer)
 look-named c w floor x is = ap (λ n. Looked 0 w.look 0 w.look n w.from floor (first_id w.from x.buffer) ∷ found_events w.k n w.look (first_id w.from x.buffer)) is
 
-pub poll-told : (k : ℕ) (c : List ℕ) (from : Id) (s : State) (x y : Channel) (none begun left looked all : List Event)
+pub poll-told : (k : ℕ) (c : List ℕ) (begin : Start) (from : Id) (s : State) (x y : Channel) (none begun left looked all : List Event)
     → x ≡ channel_of c s.channels → y ≡ touched s.clock x
-    → none ≡ [] → begun ≡ none ++ begins k c from → left ≡ begun ++ channel_left s.clock x → looked ≡ left ++ look_events (waiting_of k from s.polls) s.floor y
-    → all ≡ looked ++ Quiet ∷ [] → all ≡ poll_events k c from s
-poll-told k c from s x y none begun left looked all here touch empty one two three four =
+    → none ≡ [] → begun ≡ none ++ begins k c begin from → left ≡ begun ++ channel_left s.clock x → looked ≡ left ++ look_events (waiting_of k from s.polls) s.floor y
+    → all ≡ looked ++ Quiet ∷ [] → all ≡ poll_events k c begin from s
+poll-told k c begin from s x y none begun left looked all here touch empty one two three four =
     let name : x.name ≡ c = ap (λ (x : Channel). x.name) here ∙ channel-name c s.channels in
     let lefts = two ∙ ap (λ l. begun ++ l) (left-named c s.clock x name) in
     let looks = three ∙ ap (λ l. left ++ l) (look-named c (waiting_of k from s.polls) s.floor y (ap (λ (x : Channel). x.name) touch ∙ name)) in

@@ -7,7 +7,7 @@ use Rattle.std.proofs.lemmas.List.{length-take, get_or-take, take-append-drop, t
 use Rattle.std.proofs.lemmas.List.Elements.{recursion_from_All}
 use Rattle.std.proofs.lemmas.List.Quantifiers.{position-Some}
 use Rattle.std.proofs.lemmas.List.Sums.{fails_before_first, prefix_len-le-length}
-use Rattle.nc_replay.specs.Script.{lines_of, onto_first, IsCut}
+use Rattle.nc_replay.specs.Script.{lines_of, onto_first}
 
 onto_line : (b : ℕ) (text : List ℕ) (n : ℕ) → lines_of text ≡ take n text ∷ lines_of (drop (n + 1) text) → onto_first b (lines_of text) ≡ take (1 + n) (b ∷ text) ∷ lines_of (drop (1 + n + 1) (b ∷ text))
 onto_line b text n h =
@@ -29,24 +29,6 @@ first_and_rest (b ∷ (c ∷ text)) some = by_test (eqb b 10) (first_and_rest (c
     by_test true h = refl
     by_test false h = onto_line b (c ∷ text) (position_or_len (λ b. b == 10) (c ∷ text)) h
 
--- a text without the byte
-pub uncut : (byte : ℕ) (text : List ℕ) → position (λ b. b == byte) text ≡ None → AllByRecursion (λ b. b ≢ byte) text
-uncut byte text none = recursion_from_All (λ b. b ≢ byte) text (λ k d lt. not_from_Decides _ (Decides-eqb (get_or text k d) byte) (fails_before_first (λ b. b == byte) text k d (omega (arith, past (position_or_len (λ b. b == byte) text) (length text) none))))
-  where
-    past : (n m : ℕ) → (let o : Option ℕ = cond (ltb n m) (Some n) None in o) ≡ None → m ≤ n
-    past n m e = grind (arith, nat_tests)
-
--- a text with the byte
-pub cut_at : (byte : ℕ) (text : List ℕ) (at : ℕ) → position (λ b. b == byte) text ≡ Some at → IsCut byte text (take at text) (drop (at + 1) text)
-cut_at byte text at found =
-    let place = position-Some (λ b. b == byte) text at 0 found in
-    record {
-      joined = sym (take-append-drop at text) ∙ ap (λ (l : List ℕ). take at text ++ l) (drop_more text at 0 place.0 ∙ ap (λ (b : ℕ). b ∷ drop (at + 1) text) ((Decides-eqb (get_or text at 0) byte).0 place.1));
-      first = recursion_from_All (λ b. b ≢ byte) (take at text) (λ k d lt.
-          let below : k < at = omega (arith, length-take at text) in
-          rw (get_or-take at text k d below) (not_from_Decides _ (Decides-eqb (get_or text k d) byte) ((position-Some (λ b. b == byte) text at d found).2 k below)));
-    }
-
 -- the length of the first line
 pub len_of_first : (text : List ℕ) → unwrap_or (position (λ b. b == 10) text) (length text) ≡ position_or_len (λ b. b == 10) text
 len_of_first text = by_test (position_or_len (λ b. b == 10) text) (length text) (prefix_len-le-length (λ b. not (b == 10)) text)
@@ -60,21 +42,3 @@ rest_of_first text n m first least = take_rest text m ∙ ap (λ (i : ℕ). drop
   where
     drop_least : (n : ℕ) (text : List ℕ) → drop (min n (length text)) text ≡ drop n text
     drop_least n text = grind (arith, common_steps)
-
--- a text without the byte isn't cut at it
-pub not_cut : (byte : ℕ) (text front back : List ℕ) → AllByRecursion (λ b. b ≢ byte) text → IsCut byte text front back → ⊥
-not_cut byte text front back none cut = absent front (subst (λ (l : List ℕ). AllByRecursion (λ b. b ≢ byte) l) cut.joined none)
-  where
-    absent : (front : List ℕ) → AllByRecursion (λ b. b ≢ byte) (front ++ byte ∷ back) → ⊥
-    absent [] h = h.0 refl
-    absent (b ∷ front) h = absent front h.1
-
--- a text is cut in one way
-pub cut_one_way : (byte : ℕ) (text front back more rest : List ℕ) → IsCut byte text front back → IsCut byte text more rest → (front ≡ more) × (back ≡ rest)
-cut_one_way byte text front back more rest h k = along front more h.first k.first (sym h.joined ∙ k.joined)
-  where
-    along : (xs ys : List ℕ) → AllByRecursion (λ b. b ≢ byte) xs → AllByRecursion (λ b. b ≢ byte) ys → xs ++ byte ∷ back ≡ ys ++ byte ∷ rest → (xs ≡ ys) × (back ≡ rest)
-    along [] [] h k e = (refl, cc)
-    along [] (y ∷ ys) h k e = absurd (k.0 (cc))
-    along (x ∷ xs) [] h k e = absurd (h.0 (cc))
-    along (x ∷ xs) (y ∷ ys) h k e = let next : (xs ≡ ys) × (back ≡ rest) = along xs ys h.1 k.1 (cc) in (cc (next.0), next.1)

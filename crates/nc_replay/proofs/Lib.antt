@@ -1,5 +1,4 @@
 pub mod Cuts
-pub mod Spelled
 pub mod Flows
 pub mod Channels
 pub mod Put
@@ -12,5 +11,7 @@ pub mod Poll
 pub mod Post
 pub mod Reap
 pub mod Step
+pub mod Said
 pub mod Loop
+pub mod Parted
 pub mod Ends

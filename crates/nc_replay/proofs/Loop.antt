@@ -1,10 +1,10 @@
 -- What is known between two lines of a script while they are made.
-use Rattle.std.proofs.Common.{◌≡◌, ℕ, ◌+◌, ◌<◌, ◌≤◌, Bool, true, false, not, cond, ◌==◌, ◌||◌, List, [], ◌∷◌, ◌++◌, length, map, refl, sym, ◌∙◌, subst, ap, arith, Option, Some, None, Result, Ok, Err, append_assoc, length-append, true≢false}
+use Rattle.std.proofs.Common.{◌≡◌, ℕ, ◌+◌, ◌<◌, ◌≤◌, Bool, true, false, not, cond, ◌==◌, ◌||◌, List, [], ◌∷◌, ◌++◌, length, map, refl, sym, ◌∙◌, subst, ap, arith, Option, Some, None, Result, Ok, Err, append_assoc, length-append}
 use Rattle.std.specs.Prelude.{OnErr}
 use Rattle.std.specs.List.{flat_map}
 use Rattle.std.proofs.lemmas.List.{append-nil}
 use Rattle.std.proofs.lemmas.List.Folds.{list_any-append}
-use Rattle.nc_types.specs.Id.{Id, no_id, is_past}
+use Rattle.nc_types.specs.Id.{Id, is_past}
 use Rattle.nc_journal.specs.declared.event.Event.{Event}
 use Rattle.nc_journal.specs.History.{own, onto}
 use Rattle.nc_journal.specs.Standing.{is_subscribed}
@@ -18,14 +18,15 @@ use Rattle.nc_journal.proofs.Cuts.{onto-append}
 use Rattle.nc_journal.proofs.TextLaws.{text_grows}
 use Rattle.nc_types.specs.Cursor.{CursorAt, cursor_of}
 use Rattle.nc_replay.specs.declared.engine.Waiting.{Waiting}
-use Rattle.nc_replay.specs.declared.line.Line.{Line}
-use Rattle.nc_replay.specs.declared.line.Line.TheVariants.{Clock, Reap, Post, Poll}
-use Rattle.nc_replay.specs.Script.{lines_of, Spells, Finds}
-use Rattle.nc_replay.specs.Told.{Says, Tells, Leads, IsNew, sends}
+use Rattle.nc_script.specs.declared.line.Line.{Line}
+use Rattle.nc_script.specs.declared.line.Line.TheVariants.{Blank, Clock, Reap, Post, Poll}
+use Rattle.nc_replay.specs.declared.fault.Fault.{Fault}
+use Rattle.nc_replay.specs.Script.{lines_of}
+use Rattle.nc_replay.specs.Told.{line_after, Tells, Leads, IsNew, sends, start_id}
 use Rattle.nc_replay.specs.Machine.{State, start, events_of, after, Fits, sends_waiting, entry_left, expired_of, staying_of, surplus_of, channel_left, first_id, channel_of, next_stamp, found_events, begins}
 use Rattle.nc_replay.specs.Input.{Adds, AddsPrefix}
-use Rattle.nc_replay.specs.Run.{is_among, takes_new, used_after, SaysNew, MakesAll, MakesUntil, MakesSome}
-use Rattle.nc_replay.proofs.Spelled.{one_line}
+use Rattle.nc_replay.specs.Run.{is_among, takes_new, used_after, new_line, MakesAll, MakesUntil, MakesSome}
+use Rattle.nc_replay.proofs.Said.{NewAfter, new-after, breaks-after}
 use Rattle.nc_replay.proofs.Good.{good-lawful}
 use Rattle.nc_replay.proofs.Stand.{StandsFor, stands-start}
 use Rattle.nc_replay.proofs.Step.{HasCome, IsWithin, makes-line, come-start, come-fits}
@@ -66,9 +67,9 @@ pub adds-whole : (text : List ℕ) (first now : Option (List ℕ)) → Adds text
 adds-whole text first now h = ([], record { piece = text; cut = sym (append-nil text); added = h })
 
 -- one more line is made
-leads-more : (h : List Event) (made : List (List ℕ)) (after : List Event) (text : List ℕ) (line : Line) (es : List Event) → Leads h made after → Says after text line → Tells after line es → Leads h (made ++ text ∷ []) (onto es after)
+leads-more : (h : List Event) (made : List (List ℕ)) (after : List Event) (text : List ℕ) (line : Line) (es : List Event) → Leads h made after → (line_after after text).Says line → Tells after line es → Leads h (made ++ text ∷ []) (onto es after)
 leads-more h [] after text line es leads says tells =
-    (line, es, subst (λ (l : List Event). Says l text line) leads says, subst (λ (l : List Event). Tells l line es) leads tells, ap (onto es) leads)
+    (line, es, subst (λ (l : List Event). (line_after l text).Says line) leads says, subst (λ (l : List Event). Tells l line es) leads tells, ap (onto es) leads)
 leads-more h (first ∷ made) after text line es leads says tells =
     (leads.0, leads.1, leads.2, leads.3, leads-more (onto leads.1 h) made after text line es leads.4 says tells)
 
@@ -108,11 +109,12 @@ none-subscribed-reap k now (x ∷ channels) h =
     ∙ none-subscribed-left k x.name Expired (expired_of now x.buffer) h
 
 -- the numbers that were used are those of the subscribers that there were
-used-after-line : (line : Line) (s : State) (used : List ℕ) (h : List Event) → ((k : ℕ) → is_among used k ≡ is_subscribed k (own 0 h)) → (k : ℕ) → is_among (used_after line used) k ≡ is_subscribed k (own 0 (onto (events_of line s) h))
-used-after-line (Clock t) s used h is k = is k
-used-after-line Reap s used h is k =
+used-after-line : (line : Line) (s : State) (used : List ℕ) (h : List Event) → IsWithin line → ((k : ℕ) → is_among used k ≡ is_subscribed k (own 0 h)) → (k : ℕ) → is_among (used_after line used) k ≡ is_subscribed k (own 0 (onto (events_of line s) h))
+used-after-line Blank s used h within is k = is k
+used-after-line (Clock w t) s used h within is k = is k
+used-after-line (Reap w) s used h within is k =
     is k ∙ sym (ap (λ (l : List Event). is_subscribed k (own 0 l)) (onto-append (flat_map (channel_left s.clock) s.channels) (Quiet ∷ []) h) ∙ none-subscribed-reap k s.clock s.channels h)
-used-after-line (Post c body) s used h is k =
+used-after-line (Post w c body) s used h within is k =
     let id = next_stamp c s in
     let channel = channel_of c s.channels in
     let staying = staying_of s.clock channel.buffer in
@@ -127,12 +129,14 @@ used-after-line (Post c body) s used h is k =
     ∙ ap (λ (l : List Event). is_subscribed k (own 0 l)) (onto-append left room h)
     ∙ none-subscribed-left k c Length (surplus_of 10 staying) (onto left h)
     ∙ none-subscribed-left k c Expired (expired_of s.clock channel.buffer) h)
-used-after-line (Poll n c) s used h is k =
+used-after-line (Poll w n [] begin) s used h within is k = absurd within
+used-after-line (Poll w n (c ∷ cs) begin) s used h within is k =
+    let from = start_id begin in
     let channel = channel_of c s.channels in
-    let found = first_id no_id (staying_of s.clock channel.buffer) in
+    let found = first_id from (staying_of s.clock channel.buffer) in
     let left = map (entry_left c Expired) (expired_of s.clock channel.buffer) in
-    let look = Looked 0 s.polls 0 s.polls c no_id s.floor found in
-    let begun = onto (begins n c no_id) h in
+    let look = Looked 0 s.polls 0 s.polls c from s.floor found in
+    let begun = onto (begins n c begin from) h in
     among-more used n k (is_subscribed k (own 0 h)) (is k) ∙ sym
     (ap (λ (l : List Event). is_subscribed k (own 0 l)) (onto-append (left ++ look ∷ found_events n c s.polls found) (Quiet ∷ []) begun)
     ∙ ap (λ (l : List Event). is_subscribed k (own 0 l)) (onto-append left (look ∷ found_events n c s.polls found) begun)
@@ -163,48 +167,25 @@ made-begins first text s used is are = rw (is, are) (made-start first text)
 pub made-fits : (first now : Option (List ℕ)) (all : List (List ℕ)) (s : State) (used : List ℕ) (number : ℕ) (rest : List ℕ) (most : ℕ) → most ≤ 67108864 → Made first now all s used number rest most → Fits s
 made-fits first now all s used number rest most le made = come-fits s made.h (length made.made) (omega (arith, made.room)) made.stands made.come
 
-within-limit : (text : List ℕ) (line : Line) → Spells text line → IsWithin line
-within-limit text (Clock t) spells = spells.2.within
-within-limit text Reap spells = tt
-within-limit text (Post name body) spells = tt
-within-limit text (Poll k name) spells = tt
-
-not-false : (b : Bool) → not b ≡ true → b ≡ false
-not-false true h = absurd (true≢false (sym h))
-not-false false h = refl
-
-is-new : (used : List ℕ) (h : List Event) (line : Line) → ((k : ℕ) → is_among used k ≡ is_subscribed k (own 0 h)) → takes_new used line ≡ true → IsNew h line
-is-new used h (Clock t) among new = tt
-is-new used h Reap among new = tt
-is-new used h (Post name body) among new = tt
-is-new used h (Poll k name) among new = sym (among k) ∙ not-false (is_among used k) new
-
-takes-new : (used : List ℕ) (h : List Event) (line : Line) → ((k : ℕ) → is_among used k ≡ is_subscribed k (own 0 h)) → IsNew h line → takes_new used line ≡ true
-takes-new used h (Clock t) among new = refl
-takes-new used h Reap among new = refl
-takes-new used h (Post name body) among new = refl
-takes-new used h (Poll k name) among new = rw (among k, new) refl
-
 length-snoc : (made : List (List ℕ)) (text : List ℕ) → length (made ++ text ∷ []) ≡ length made + 1
 length-snoc made text = length-append made (text ∷ [])
 
 -- a line was made and its events were written
 pub made-next : (first now new : Option (List ℕ)) (all : List (List ℕ)) (s : State) (used : List ℕ) (number : ℕ) (rest : List ℕ) (most : ℕ) (text behind : List ℕ) (line : Line) → most ≤ 67108864
-    → lines_of rest ≡ text ∷ lines_of behind → length behind < length rest → SaysNew used text line → Adds (lines_text (events_of line s)) now new
+    → lines_of rest ≡ text ∷ lines_of behind → length behind < length rest → (new_line used text).Says line → Adds (lines_text (events_of line s)) now new
     → Made first now all s used number rest most → Made first new all (after line s) (used_after line used) (number + 1) behind most
 made-next first now new all s used number rest most text behind line le cut shorter says written made =
     let few : length made.made < 4294967295 = omega (arith, made.room) in
-    let fresh = is-new used made.h line made.among says.new in
-    let makes = makes-line s made.h line (length made.made) few made.stands made.come (within-limit text line says.spells) fresh in
-    let said : Says made.h text line = record { spells = says.spells; new = fresh } in
+    let after-new = new-after used made.h text line made.among says in
+    let makes = makes-line s made.h line (length made.made) few made.stands made.come after-new.within after-new.fresh in
     record {
       h = onto (events_of line s) made.h;
       made = made.made ++ text ∷ [];
       cut = made.cut ∙ ap (λ (l : List (List ℕ)). made.made ++ l) cut ∙ sym (append_assoc made.made (text ∷ []) (lines_of behind));
-      leads = leads-more [] made.made made.h text line (events_of line s) made.leads said makes.tells;
+      leads = leads-more [] made.made made.h text line (events_of line s) made.leads after-new.says makes.tells;
       stands = makes.stands;
       come = subst (HasCome (after line s)) (sym (length-snoc made.made text)) makes.come;
-      among = used-after-line line s used made.h made.among;
+      among = used-after-line line s used made.h after-new.within made.among;
       counted = ap (λ n. n + 1) made.counted ∙ omega (arith, length-snoc made.made text);
       room = omega (arith, length-snoc made.made text, made.room);
       written = subst (λ (l : List ℕ). Adds l first new) (sym (text_grows (events_of line s) made.h)) (adds-more (text_of made.h) (lines_text (events_of line s)) first now new made.written written);
@@ -220,18 +201,18 @@ made-whole first now all s used number [] most end made = record {
 }
 made-whole first now all s used number (b ∷ rest) most end made = absurd (omega arith)
 
--- the next line is out of form
-pub made-fault : (first now : Option (List ℕ)) (all : List (List ℕ)) (s : State) (used : List ℕ) (number : ℕ) (rest : List ℕ) (most : ℕ) (text behind : List ℕ)
-    → lines_of rest ≡ text ∷ lines_of behind → ((line : Line) → SaysNew used text line → ⊥) → Made first now all s used number rest most → MakesUntil all first now number
-made-fault first now all s used number rest most text behind cut none made = record {
+-- the next line breaks a rule
+pub made-fault : (first now : Option (List ℕ)) (all : List (List ℕ)) (s : State) (used : List ℕ) (number : ℕ) (rest : List ℕ) (most : ℕ) (text behind : List ℕ) (fault : Fault)
+    → lines_of rest ≡ text ∷ lines_of behind → fault.line ≡ number → (new_line used text).Breaks fault.rule fault.at → Made first now all s used number rest most → MakesUntil all first now fault
+made-fault first now all s used number rest most text behind fault cut counted breaks made = record {
   h = made.h;
   made = made.made;
   bad = text;
   rest = lines_of behind;
   cut = made.cut ∙ ap (λ (l : List (List ℕ)). made.made ++ l) cut;
   leads = made.leads;
-  faulty = λ line says. none line (record { spells = says.spells; new = takes-new used made.h line made.among says.new });
-  counted = made.counted;
+  breaks = breaks-after used made.h text fault.rule fault.at made.among breaks;
+  counted = counted ∙ made.counted;
   lawful = good-lawful made.h made.stands.good;
   written = made.written;
 }
@@ -250,18 +231,18 @@ made-some first now all s used number rest most made = record {
 
 -- the work stops while the events of a line are written
 pub made-cut : (first now new : Option (List ℕ)) (all : List (List ℕ)) (s : State) (used : List ℕ) (number : ℕ) (rest : List ℕ) (most : ℕ) (text behind : List ℕ) (line : Line) → most ≤ 67108864
-    → lines_of rest ≡ text ∷ lines_of behind → SaysNew used text line → AddsPrefix (lines_text (events_of line s)) now new
+    → lines_of rest ≡ text ∷ lines_of behind → (new_line used text).Says line → AddsPrefix (lines_text (events_of line s)) now new
     → Made first now all s used number rest most → MakesSome all first new
 made-cut first now new all s used number rest most text behind line le cut says written made =
     let few : length made.made < 4294967295 = omega (arith, made.room) in
-    let fresh = is-new used made.h line made.among says.new in
-    let makes = makes-line s made.h line (length made.made) few made.stands made.come (within-limit text line says.spells) fresh in
+    let after-new = new-after used made.h text line made.among says in
+    let makes = makes-line s made.h line (length made.made) few made.stands made.come after-new.within after-new.fresh in
     record {
       h = onto (events_of line s) made.h;
       made = made.made ++ text ∷ [];
       rest = lines_of behind;
       cut = made.cut ∙ ap (λ (l : List (List ℕ)). made.made ++ l) cut ∙ sym (append_assoc made.made (text ∷ []) (lines_of behind));
-      leads = leads-more [] made.made made.h text line (events_of line s) made.leads (record { spells = says.spells; new = fresh }) makes.tells;
+      leads = leads-more [] made.made made.h text line (events_of line s) made.leads after-new.says makes.tells;
       lawful = good-lawful (onto (events_of line s) made.h) makes.stands.good;
       written = subst (λ (l : List ℕ). AddsPrefix l first new) (sym (text_grows (events_of line s) made.h)) (adds-prefix (text_of made.h) (lines_text (events_of line s)) first now new made.written written);
     }
@@ -270,20 +251,6 @@ pub always-err : {T E : Type 0} (r : Result T E) (P : Type 0) → P → OnErr r 
 always-err (Ok x) P p = tt
 always-err (Err e) P p = p
 
-pub finds-none : {X : Type 0} (P : X → Type 0) (o : Option X) → Finds P o → o ≡ None → (x : X) → P x → ⊥
-finds-none P None h is = h
-finds-none P (Some y) h is = absurd (cc)
-
-pub finds-some : {X : Type 0} (P : X → Type 0) (o : Option X) (x : X) → Finds P o → o ≡ Some x → P x
-finds-some P None x h is = absurd (cc)
-finds-some P (Some y) x h is = let same : y ≡ x = cc in subst P same h
-
 -- the text that was written is that of the line's events
 pub text-made : (s : State) (line : Line) (events : List Event) (items slice : List ℕ) → events ≡ events_of line s → items ≡ lines_text events → slice ≡ items → slice ≡ lines_text (events_of line s)
 text-made s line events items slice events-are items-are slice-is = slice-is ∙ items-are ∙ ap lines_text events-are
-
--- a line that takes a used number isn't admitted, and the text spells no other
-pub not-admitted : (used text : List ℕ) (line other : Line) → Spells text line → takes_new used line ≡ false → SaysNew used text other → ⊥
-not-admitted used text line other spells old says =
-    let same : other ≡ line = one_line text other line says.spells spells in
-    true≢false (sym says.new ∙ ap (takes_new used) same ∙ old)

@@ -6,7 +6,7 @@ use Rattle.std.proofs.lemmas.Bool.{eqb-true, cond_both, false_from_ne_true}
 use Rattle.nc_types.specs.Id.{Id, is_past}
 use Rattle.nc_types.specs.Cursor.{CursorAt, cursor_of}
 use Rattle.nc_types.specs.Channel.{name_eq}
-use Rattle.nc_types.specs.declared.start.Start.TheVariants.{Given}
+use Rattle.nc_types.specs.declared.start.Start.{Start}
 use Rattle.nc_journal.specs.declared.word.ModeLine.TheVariants.{Direct}
 use Rattle.nc_journal.specs.declared.word.EndedCause.TheVariants.{Answered}
 use Rattle.nc_journal.specs.declared.event.Event.{Event}
@@ -16,13 +16,14 @@ use Rattle.nc_journal.specs.Stamp.{clock_of, floor_of, last_of, made_last, spent
 use Rattle.nc_journal.specs.declared.word.LeftCause.TheVariants.{Expired}
 use Rattle.nc_journal.specs.Message.{Message, buffer, first_past}
 use Rattle.nc_journal.specs.Standing.{Stage, Absent, Starting, Standing, Served, Over, stage_of, started, served, IsServed, NobodyServed}
+use Rattle.nc_journal.specs.Sending.{StartsAt}
 use Rattle.nc_journal.proofs.Cuts.{all-weaker, onto-append}
 use Rattle.nc_journal.proofs.Ids.{past_of_test}
 use Rattle.nc_journal.proofs.Buffers.{find-first, find-none}
 use Rattle.nc_journal.proofs.Rising.{ids-rise}
 use Rattle.nc_replay.specs.declared.engine.Channel.{Channel}
 use Rattle.nc_replay.specs.declared.engine.Waiting.{Waiting}
-use Rattle.nc_replay.specs.Told.{posts_of, polls_of, look_of, IsAscending, HasNumber, leaves, expired, staying, found_id, found_sends, told_poll}
+use Rattle.nc_replay.specs.Told.{posts_of, polls_of, look_of, IsAscending, HasNumber, leaves, expired, staying, found_id, found_sends, start_id, told_poll}
 use Rattle.nc_replay.specs.Machine.{State, channel_of, with_channel, touched, staying_of, first_id, enter, polled, begins, found_events, poll_events, waiting_of, after_poll}
 use Rattle.nc_replay.proofs.Channels.{channel-name, channel-here, each-channel, order-with}
 use Rattle.nc_replay.proofs.Put.{each-other}
@@ -81,8 +82,8 @@ found-is : (c : List ℕ) (from : Id) (s : State) (h : List Event) → StandsFor
 found-is c from s h stands = ap (first_id from) (staying-is c s h stands) ∙ found-ids from (staying c h (own 0 h))
 
 -- the events of a poll and the state after it, by what leaves and by what its look found
-abbrev events : ℕ → List ℕ → Id → List Event → ℕ → ℕ → Option Id → List Event
-events k c from left look floor found = begins k c from ++ left ++ Looked 0 look 0 look c from floor found ∷ found_events k c look found ++ Quiet ∷ []
+abbrev events : ℕ → List ℕ → Start → Id → List Event → ℕ → ℕ → Option Id → List Event
+events k c begin from left look floor found = begins k c begin from ++ left ++ Looked 0 look 0 look c from floor found ∷ found_events k c look found ++ Quiet ∷ []
 
 abbrev state : ℕ → List ℕ → Id → State → Option Id → State
 state k c from s found = record s { polls = s.polls + 1; channels = with_channel c (polled (waiting_of k from s.polls) found (touched s.clock (channel_of c s.channels))) s.channels }
@@ -90,32 +91,33 @@ state k c from s found = record s { polls = s.polls + 1; channels = with_channel
 abbrev left_events : List ℕ → List Event → List Event
 left_events c h = map (leaves c Expired) (expired c h (own 0 h))
 
-pub tells-poll : (k : ℕ) (c : List ℕ) (from : Id) (s : State) (h : List Event) → StandsFor s h → poll_events k c from s ≡ told_poll k c from h (own 0 h)
-tells-poll k c from s h stands =
+pub tells-poll : (k : ℕ) (c : List ℕ) (begin : Start) (s : State) (h : List Event) → StandsFor s h → poll_events k c begin (start_id begin) s ≡ told_poll k c begin h (own 0 h)
+tells-poll k c begin s h stands =
+    let from = start_id begin in
     let found = finds c from h in
     let look = polls_of (own 0 h) in
     let floor = floor_of (own 0 h) in
-    ap (λ left. events k c from left s.polls s.floor (first_id from (staying_of s.clock (channel_of c s.channels).buffer))) (expired-left c s h stands)
-    ∙ ap (events k c from (left_events c h) s.polls s.floor) (found-is c from s h stands)
-    ∙ ap (λ look. events k c from (left_events c h) look s.floor (found_id found)) stands.polls
-    ∙ ap (λ floor. events k c from (left_events c h) look floor (found_id found)) stands.floor
-    ∙ ap (λ sent. begins k c from ++ left_events c h ++ Looked 0 look 0 look c from floor (found_id found) ∷ sent ++ Quiet ∷ []) (same-sends look found)
+    ap (λ left. events k c begin from left s.polls s.floor (first_id from (staying_of s.clock (channel_of c s.channels).buffer))) (expired-left c s h stands)
+    ∙ ap (events k c begin from (left_events c h) s.polls s.floor) (found-is c from s h stands)
+    ∙ ap (λ look. events k c begin from (left_events c h) look s.floor (found_id found)) stands.polls
+    ∙ ap (λ floor. events k c begin from (left_events c h) look floor (found_id found)) stands.floor
+    ∙ ap (λ sent. begins k c begin from ++ left_events c h ++ Looked 0 look 0 look c from floor (found_id found) ∷ sent ++ Quiet ∷ []) (same-sends look found)
   where
     same-sends : (look : ℕ) (found : Option Message) → found_events k c look (found_id found) ≡ found_sends k c look found
     same-sends look None = refl
     same-sends look (Some m) = refl
 
 -- the history once a subscriber has started behind an id
-abbrev begun : ℕ → List ℕ → Id → List Event → List Event
-begun k c from h = Started 0 k (cursor_of from) ∷ Subscribed 0 k None (c ∷ []) Direct (Given (cursor_of from)) 0 false ∷ h
+abbrev begun : ℕ → List ℕ → Start → Id → List Event → List Event
+begun k c begin from h = Started 0 k (cursor_of from) ∷ Subscribed 0 k None (c ∷ []) Direct begin 0 false ∷ h
 
 -- and once what has expired left
-abbrev relieved : ℕ → List ℕ → Id → List Event → List Event
-relieved k c from h = let_expired c (begun k c from h)
+abbrev relieved : ℕ → List ℕ → Start → Id → List Event → List Event
+relieved k c begin from h = let_expired c (begun k c begin from h)
 
 -- and once it has looked
-abbrev looked : ℕ → List ℕ → Id → ℕ → ℕ → Option Id → List Event → List Event
-looked k c from look floor found h = Looked 0 look 0 look c from floor found ∷ relieved k c from h
+abbrev looked : ℕ → List ℕ → Start → Id → ℕ → ℕ → Option Id → List Event → List Event
+looked k c begin from look floor found h = Looked 0 look 0 look c from floor found ∷ relieved k c begin from h
 
 -- and once it was sent a message, which ends it
 abbrev pub answered : ℕ → List ℕ → Id → ℕ → List Event → List Event
@@ -133,14 +135,14 @@ not-there k c h waiting new waits there =
     let found = find-waiting nothing c h waiting k waits there in
     clash (c ∷ []) true (cursor_of found.0.from) (sym new ∙ subst (λ n. stage_of n (own 0 h) ≡ Standing (c ∷ []) true (cursor_of found.0.from)) found.1 found.2.stage)
 
-waits-looked : (k : ℕ) (c : List ℕ) (from : Id) (look floor : ℕ) (found : Option Id) (d : List ℕ) (h : List Event) (w : Waiting) → stage_of k (own 0 h) ≡ Absent → Waits nothing d h w → Waits nothing d (looked k c from look floor found h) w
-waits-looked k c from look floor found d h w new wait =
+waits-looked : (k : ℕ) (c : List ℕ) (begin : Start) (from : Id) (look floor : ℕ) (found : Option Id) (d : List ℕ) (h : List Event) (w : Waiting) → stage_of k (own 0 h) ≡ Absent → Waits nothing d h w → Waits nothing d (looked k c begin from look floor found h) w
+waits-looked k c begin from look floor found d h w new wait =
     let other = absent-other k d h w new wait in
-    let there = relieved k c from h in
+    let there = relieved k c begin from h in
     waits-push nothing d there (Looked 0 look 0 look c from floor found) w (λ l. refl) (refl {a = stage_of w.k (own 0 there)}) (refl {a = look_of w.k (own 0 there)})
-    (waits-lefts nothing d c Expired (expired c h (own 0 h)) (begun k c from h) w
+    (waits-lefts nothing d c Expired (expired c h (own 0 h)) (begun k c begin from h) w
     (waits-push nothing d _ (Started 0 k (cursor_of from)) w (λ l. refl) (rw other refl) refl
-    (waits-push nothing d h (Subscribed 0 k None (c ∷ []) Direct (Given (cursor_of from)) 0 false) w (λ l. refl) (rw other refl) (rw other refl) wait)))
+    (waits-push nothing d h (Subscribed 0 k None (c ∷ []) Direct begin 0 false) w (λ l. refl) (rw other refl) (rw other refl) wait)))
 
 pub waits-answered : (fresh : Message → Type 0) (k : ℕ) (c : List ℕ) (id : Id) (look : ℕ) (d : List ℕ) (h : List Event) (w : Waiting) → (k == w.k) ≡ false → Waits fresh d h w → Waits fresh d (answered k c id look h) w
 waits-answered fresh k c id look d h w other wait =
@@ -156,44 +158,48 @@ nobody-by : (h : List Event) → ((w : ℕ) → (w == 0) ≡ false → own w h �
 nobody-by h alone none w n = by-worker (λ stage. IsServed stage → ⊥) h alone (λ v. v) n (none n) w
 
 -- where a subscriber stands that has begun
-stage-begun : (k : ℕ) (c : List ℕ) (from : Id) (h : List Event) → stage_of k (own 0 (relieved k c from h)) ≡ Standing (c ∷ []) true (cursor_of from)
-stage-begun k c from h = let-same (λ l. stage_of k (own 0 l)) c (begun k c from h) (λ id slot l. refl) ∙ rw (eq-eqb k k refl) refl
+stage-begun : (k : ℕ) (c : List ℕ) (begin : Start) (from : Id) (h : List Event) → stage_of k (own 0 (relieved k c begin from h)) ≡ Standing (c ∷ []) true (cursor_of from)
+stage-begun k c begin from h = let-same (λ l. stage_of k (own 0 l)) c (begun k c begin from h) (λ id slot l. refl) ∙ rw (eq-eqb k k refl) refl
 
-stage-other : (k : ℕ) (c : List ℕ) (from : Id) (h : List Event) (n : ℕ) → (k == n) ≡ false → stage_of n (own 0 (relieved k c from h)) ≡ stage_of n (own 0 h)
-stage-other k c from h n other = let-same (λ l. stage_of n (own 0 l)) c (begun k c from h) (λ id slot l. refl) ∙ rw other refl
+stage-other : (k : ℕ) (c : List ℕ) (begin : Start) (from : Id) (h : List Event) (n : ℕ) → (k == n) ≡ false → stage_of n (own 0 (relieved k c begin from h)) ≡ stage_of n (own 0 h)
+stage-other k c begin from h n other = let-same (λ l. stage_of n (own 0 l)) c (begun k c begin from h) (λ id slot l. refl) ∙ rw other refl
 
 -- what is known once a subscriber has looked
-record Begun (k : ℕ) (c : List ℕ) (from : Id) (s : State) (h : List Event) (found : Option Id) : Type 0 where
-  good : IsGood (looked k c from s.polls s.floor found h)
-  stage : stage_of k (own 0 (relieved k c from h)) ≡ Standing (c ∷ []) true (cursor_of from)
-  clock : s.clock ≡ clock_of (own 0 (relieved k c from h))
-  floor : s.floor ≡ floor_of (own 0 (relieved k c from h))
-  posts : s.posts ≡ posts_of (own 0 (relieved k c from h))
-  polls : s.polls + 1 ≡ polls_of (own 0 (relieved k c from h))
-  here : staying_of s.clock (channel_of c s.channels).buffer ≡ entries (buffer c (relieved k c from h))
-  others : (d : List ℕ) → name_eq c d ≡ false → (channel_of d s.channels).buffer ≡ entries (buffer d (relieved k c from h))
-  first : first_past c from (relieved k c from h) ≡ finds c from h
-  waits : (d : List ℕ) → AllByRecursion (Waits nothing d (looked k c from s.polls s.floor found h)) (channel_of d s.channels).waiting
-  last : (d : List ℕ) → (channel_of d s.channels).last ≡ last_of d (own 0 (looked k c from s.polls s.floor found h))
-  alone : (w : ℕ) → (w == 0) ≡ false → own w (looked k c from s.polls s.floor found h) ≡ []
+record Begun (k : ℕ) (c : List ℕ) (begin : Start) (from : Id) (s : State) (h : List Event) (found : Option Id) : Type 0 where
+  good : IsGood (looked k c begin from s.polls s.floor found h)
+  stage : stage_of k (own 0 (relieved k c begin from h)) ≡ Standing (c ∷ []) true (cursor_of from)
+  clock : s.clock ≡ clock_of (own 0 (relieved k c begin from h))
+  floor : s.floor ≡ floor_of (own 0 (relieved k c begin from h))
+  posts : s.posts ≡ posts_of (own 0 (relieved k c begin from h))
+  polls : s.polls + 1 ≡ polls_of (own 0 (relieved k c begin from h))
+  here : staying_of s.clock (channel_of c s.channels).buffer ≡ entries (buffer c (relieved k c begin from h))
+  others : (d : List ℕ) → name_eq c d ≡ false → (channel_of d s.channels).buffer ≡ entries (buffer d (relieved k c begin from h))
+  first : first_past c from (relieved k c begin from h) ≡ finds c from h
+  waits : (d : List ℕ) → AllByRecursion (Waits nothing d (looked k c begin from s.polls s.floor found h)) (channel_of d s.channels).waiting
+  last : (d : List ℕ) → (channel_of d s.channels).last ≡ last_of d (own 0 (looked k c begin from s.polls s.floor found h))
+  alone : (w : ℕ) → (w == 0) ≡ false → own w (looked k c begin from s.polls s.floor found h) ≡ []
 
-has-begun : (k : ℕ) (c : List ℕ) (from : Id) (s : State) (h : List Event) (found : Option Id) → StandsFor s h → stage_of k (own 0 h) ≡ Absent → Begun k c from s h found
-has-begun k c from s h found stands new =
-    let subscribed = Subscribed 0 k None (c ∷ []) Direct (Given (cursor_of from)) 0 false in
+-- a start of one channel begins behind this id
+abbrev pub Starts : List ℕ → Start → Id → Type 0
+Starts c begin from = StartsAt (cursor_of from) (Starting (c ∷ []) true begin)
+
+has-begun : (k : ℕ) (c : List ℕ) (begin : Start) (from : Id) (s : State) (h : List Event) (found : Option Id) → Starts c begin from → StandsFor s h → stage_of k (own 0 h) ≡ Absent → Begun k c begin from s h found
+has-begun k c begin from s h found starts stands new =
+    let subscribed = Subscribed 0 k None (c ∷ []) Direct begin 0 false in
     let start = Started 0 k (cursor_of from) in
     let look = Looked 0 s.polls 0 s.polls c from s.floor found in
-    let before = begun k c from h in
+    let before = begun k c begin from h in
     let leaving = expired c h (own 0 h) in
     let nobody = nobody-served s h stands in
     let alone1 = alone-push h subscribed (λ w other. other) stands.alone in
     let alone2 = alone-push (subscribed ∷ h) start (λ w other. other) alone1 in
-    let nobody1 : NobodyServed (subscribed ∷ h) = nobody-by (subscribed ∷ h) alone1 (λ n. cond_both (k == n) (Starting (c ∷ []) true (Given (cursor_of from))) (stage_of n (own 0 h)) (λ stage. IsServed stage → ⊥) (λ _ v. v) (λ _. nobody 0 n)) in
+    let nobody1 : NobodyServed (subscribed ∷ h) = nobody-by (subscribed ∷ h) alone1 (λ n. cond_both (k == n) (Starting (c ∷ []) true begin) (stage_of n (own 0 h)) (λ stage. IsServed stage → ⊥) (λ _ v. v) (λ _. nobody 0 n)) in
     let nobody2 : NobodyServed before = nobody-by before alone2 (λ n. none-served (k == n) (stage_of n (own 0 h)) (nobody 0 n)) in
     let good1 = good-push h subscribed stands.good (record { stamped = tt; ordered = (new, nobody); sent = tt; started = tt; quiet = tt; keeps = tt; left = tt; finds = tt }) in
-    let good2 = good-push (subscribed ∷ h) start good1 (record { stamped = tt; ordered = (rw (eq-eqb k k refl) tt, nobody1); sent = tt; started = rw (eq-eqb k k refl) refl; quiet = tt; keeps = tt; left = tt; finds = tt }) in
+    let good2 = good-push (subscribed ∷ h) start good1 (record { stamped = tt; ordered = (rw (eq-eqb k k refl) tt, nobody1); sent = tt; started = rw (eq-eqb k k refl) starts; quiet = tt; keeps = tt; left = tt; finds = tt }) in
     record {
-      good = good-push (relieved k c from h) look (good-let c before good2 nobody2) (record { stamped = tt; ordered = nobody-lefts c Expired leaving before nobody2; sent = tt; started = tt; quiet = tt; keeps = tt; left = tt; finds = none-let c before good2 });
-      stage = stage-begun k c from h;
+      good = good-push (relieved k c begin from h) look (good-let c before good2 nobody2) (record { stamped = tt; ordered = nobody-lefts c Expired leaving before nobody2; sent = tt; started = tt; quiet = tt; keeps = tt; left = tt; finds = none-let c before good2 });
+      stage = stage-begun k c begin from h;
       clock = stands.clock ∙ sym (let-same (λ l. clock_of (own 0 l)) c before (λ id slot l. refl));
       floor = stands.floor ∙ sym (let-same (λ l. floor_of (own 0 l)) c before (λ id slot l. refl));
       posts = stands.posts ∙ sym (let-same (λ l. posts_of (own 0 l)) c before (λ id slot l. refl));
@@ -201,12 +207,12 @@ has-begun k c from s h found stands new =
       here = staying-is c s h stands ∙ ap entries (sym (buffer-let c before good2));
       others = λ d other. stands.buffer d ∙ ap entries (sym (buffer-let-other c d before other));
       first = ap (find (λ m. is_past m.id from)) (buffer-let c before good2);
-      waits = λ d. all-weaker (Waits nothing d h) (Waits nothing d (looked k c from s.polls s.floor found h)) (λ w wait. waits-looked k c from s.polls s.floor found d h w new wait) (channel_of d s.channels).waiting (stands.waits d);
-      last = λ d. stands.last d ∙ sym (let-same (λ l. last_of d (own 0 l)) c before (λ id slot l. refl)) ∙ sym (made-same (name_eq c d) (made_last d (own 0 (relieved k c from h))) (spent_of (own 0 (relieved k c from h))));
-      alone = alone-push (relieved k c from h) look (λ w other. other) (alone-lefts c Expired leaving before alone2);
+      waits = λ d. all-weaker (Waits nothing d h) (Waits nothing d (looked k c begin from s.polls s.floor found h)) (λ w wait. waits-looked k c begin from s.polls s.floor found d h w new wait) (channel_of d s.channels).waiting (stands.waits d);
+      last = λ d. stands.last d ∙ sym (let-same (λ l. last_of d (own 0 l)) c before (λ id slot l. refl)) ∙ sym (made-same (name_eq c d) (made_last d (own 0 (relieved k c begin from h))) (spent_of (own 0 (relieved k c begin from h))));
+      alone = alone-push (relieved k c begin from h) look (λ w other. other) (alone-lefts c Expired leaving before alone2);
     }
   where
-    none-served : (b : Bool) (stage : Stage) → (IsServed stage → ⊥) → IsServed (cond b (started (cursor_of from) (cond b (Starting (c ∷ []) true (Given (cursor_of from))) stage)) (cond b (Starting (c ∷ []) true (Given (cursor_of from))) stage)) → ⊥
+    none-served : (b : Bool) (stage : Stage) → (IsServed stage → ⊥) → IsServed (cond b (started (cursor_of from) (cond b (Starting (c ∷ []) true begin) stage)) (cond b (Starting (c ∷ []) true begin) stage)) → ⊥
     none-served true stage none v = v
     none-served false stage none v = none v
 
@@ -229,24 +235,24 @@ settled-both channels k n h here others = by_test (k == n) refl
     by_test false other = others other
 
 -- a look that finds nothing
-stands-entered : (k : ℕ) (c : List ℕ) (from : Id) (s : State) (h : List Event) → StandsFor s h → stage_of k (own 0 h) ≡ Absent → finds c from h ≡ None
-    → StandsFor (state k c from s None) (looked k c from s.polls s.floor None h)
-stands-entered k c from s h stands new none =
-    let b = has-begun k c from s h None stands new in
+stands-entered : (k : ℕ) (c : List ℕ) (begin : Start) (from : Id) (s : State) (h : List Event) → Starts c begin from → StandsFor s h → stage_of k (own 0 h) ≡ Absent → finds c from h ≡ None
+    → StandsFor (state k c from s None) (looked k c begin from s.polls s.floor None h)
+stands-entered k c begin from s h starts stands new none =
+    let b = has-begun k c begin from s h None starts stands new in
     let channel = channel_of c s.channels in
     let new-one = waiting_of k from s.polls in
     let entered = polled new-one None (touched s.clock channel) in
     let name = channel-name c s.channels in
-    let after = looked k c from s.polls s.floor None h in
+    let after = looked k c begin from s.polls s.floor None h in
     let waits : Waits nothing c after new-one = record {
       stage = b.stage;
       look = look-begun stands.polls;
       since = [];
-      seen = relieved k c from h;
+      seen = relieved k c begin from h;
       floor = s.floor;
       found = None;
       looked = refl;
-      buffered = find-none c from (relieved k c from h) (b.first ∙ none);
+      buffered = find-none c from (relieved k c begin from h) (b.first ∙ none);
       later = tt;
     } in
     record {
@@ -262,24 +268,24 @@ stands-entered k c from s h stands new none =
       ascending = each-channel (λ d x. IsAscending (numbers x.waiting)) c entered s.channels name (ascending-enter new-one channel.waiting (not-there k c h channel.waiting new (stands.waits c)) (stands.ascending c)) stands.ascending;
       settled = λ n. settled-both (with_channel c entered s.channels) k n after
           (rw b.stage (c, refl, subst (λ (x : Channel). HasNumber (numbers x.waiting) k) (sym (channel-here c entered s.channels name)) (has-entered new-one channel.waiting)))
-          (λ other. subst (SettledAt (with_channel c entered s.channels) n) (sym (stage-other k c from h n other))
+          (λ other. subst (SettledAt (with_channel c entered s.channels) n) (sym (stage-other k c begin from h n other))
           (settled-with c entered s.channels name n (has-still new-one n channel.waiting) (stage_of n (own 0 h)) (stands.settled n)));
       alone = b.alone;
     }
   where
-    look-begun : s.polls ≡ polls_of (own 0 h) → look_of k (own 0 (relieved k c from h)) ≡ s.polls
-    look-begun are = let-same (λ l. look_of k (own 0 l)) c (begun k c from h) (λ id slot l. refl) ∙ rw (eq-eqb k k refl) (sym are)
+    look-begun : s.polls ≡ polls_of (own 0 h) → look_of k (own 0 (relieved k c begin from h)) ≡ s.polls
+    look-begun are = let-same (λ l. look_of k (own 0 l)) c (begun k c begin from h) (λ id slot l. refl) ∙ rw (eq-eqb k k refl) (sym are)
 
 -- a look that finds a message
-stands-answered : (k : ℕ) (c : List ℕ) (from : Id) (s : State) (h : List Event) (m : Message) → StandsFor s h → stage_of k (own 0 h) ≡ Absent → finds c from h ≡ Some m
-    → StandsFor (state k c from s (Some m.id)) (answered k c m.id s.polls (looked k c from s.polls s.floor (Some m.id) h))
-stands-answered k c from s h m stands new is =
-    let b = has-begun k c from s h (Some m.id) stands new in
+stands-answered : (k : ℕ) (c : List ℕ) (begin : Start) (from : Id) (s : State) (h : List Event) (m : Message) → Starts c begin from → StandsFor s h → stage_of k (own 0 h) ≡ Absent → finds c from h ≡ Some m
+    → StandsFor (state k c from s (Some m.id)) (answered k c m.id s.polls (looked k c begin from s.polls s.floor (Some m.id) h))
+stands-answered k c begin from s h m starts stands new is =
+    let b = has-begun k c begin from s h (Some m.id) starts stands new in
     let channel = touched s.clock (channel_of c s.channels) in
     let name = channel-name c s.channels in
-    let seen = looked k c from s.polls s.floor (Some m.id) h in
+    let seen = looked k c begin from s.polls s.floor (Some m.id) h in
     let sent = Sent 0 k 0 c m.id (cursor_of m.id) (s.polls ∷ []) in
-    let first = find-first c from m (relieved k c from h) (b.first ∙ is) in
+    let first = find-first c from m (relieved k c begin from h) (b.first ∙ is) in
     let to-one : SentToOne [] seen 0 k 0 c m.id (cursor_of m.id) (s.polls ∷ []) = record {
       from = from;
       look = s.polls;
@@ -290,11 +296,11 @@ stands-answered k c from s h m stands new is =
       moves = refl;
       rests = refl;
       since = [];
-      seen = relieved k c from h;
+      seen = relieved k c begin from h;
       floor = s.floor;
       found = Some m.id;
       looked = refl;
-      buffered = first.2 (ids-rise 1 (relieved k c from h) b.good.stamped.0 c);
+      buffered = first.2 (ids-rise 1 (relieved k c begin from h) b.good.stamped.0 c);
       later = tt;
       has_it = inl first.0;
     } in
@@ -318,27 +324,27 @@ stands-answered k c from s h m stands new is =
       alone = alone-push (sent ∷ seen) (Ended 0 k Answered) (λ w other. other) (alone-push seen sent (λ w other. other) b.alone);
     }
   where
-    ended-other : (n : ℕ) → (k == n) ≡ false → stage_of n (own 0 (answered k c m.id s.polls (looked k c from s.polls s.floor (Some m.id) h))) ≡ stage_of n (own 0 h)
-    ended-other n other = ap (λ b. cond b Over (cond b (served (cursor_of m.id) (stage_of n (own 0 (relieved k c from h)))) (stage_of n (own 0 (relieved k c from h))))) other ∙ stage-other k c from h n other
+    ended-other : (n : ℕ) → (k == n) ≡ false → stage_of n (own 0 (answered k c m.id s.polls (looked k c begin from s.polls s.floor (Some m.id) h))) ≡ stage_of n (own 0 h)
+    ended-other n other = ap (λ b. cond b Over (cond b (served (cursor_of m.id) (stage_of n (own 0 (relieved k c begin from h)))) (stage_of n (own 0 (relieved k c begin from h))))) other ∙ stage-other k c begin from h n other
 
-    still-waits : (d : List ℕ) → AllByRecursion (Waits nothing d (answered k c m.id s.polls (looked k c from s.polls s.floor (Some m.id) h))) (channel_of d s.channels).waiting
-    still-waits d = all-weaker (Waits nothing d h) (Waits nothing d (answered k c m.id s.polls (looked k c from s.polls s.floor (Some m.id) h)))
-        (λ w wait. waits-answered nothing k c m.id s.polls d (looked k c from s.polls s.floor (Some m.id) h) w (absent-other k d h w new wait) (waits-looked k c from s.polls s.floor (Some m.id) d h w new wait))
+    still-waits : (d : List ℕ) → AllByRecursion (Waits nothing d (answered k c m.id s.polls (looked k c begin from s.polls s.floor (Some m.id) h))) (channel_of d s.channels).waiting
+    still-waits d = all-weaker (Waits nothing d h) (Waits nothing d (answered k c m.id s.polls (looked k c begin from s.polls s.floor (Some m.id) h)))
+        (λ w wait. waits-answered nothing k c m.id s.polls d (looked k c begin from s.polls s.floor (Some m.id) h) w (absent-other k d h w new wait) (waits-looked k c begin from s.polls s.floor (Some m.id) d h w new wait))
         (channel_of d s.channels).waiting (stands.waits d)
 
-pub stands-poll : (k : ℕ) (c : List ℕ) (from : Id) (s : State) (h : List Event) → StandsFor s h → stage_of k (own 0 h) ≡ Absent
-    → StandsFor (after_poll k c from s) (onto (poll_events k c from s) h)
-stands-poll k c from s h stands new =
-    subst (λ (left : List Event). StandsFor (after_poll k c from s) (onto (events k c from left s.polls s.floor (first_id from (staying_of s.clock (channel_of c s.channels).buffer))) h)) (sym (expired-left c s h stands))
-    (subst (λ (found : Option Id). StandsFor (state k c from s found) (onto (events k c from (left_events c h) s.polls s.floor found) h)) (sym (found-is c from s h stands)) (by_found (finds c from h) refl))
+pub stands-poll : (k : ℕ) (c : List ℕ) (begin : Start) (from : Id) (s : State) (h : List Event) → Starts c begin from → StandsFor s h → stage_of k (own 0 h) ≡ Absent
+    → StandsFor (after_poll k c from s) (onto (poll_events k c begin from s) h)
+stands-poll k c begin from s h starts stands new =
+    subst (λ (left : List Event). StandsFor (after_poll k c from s) (onto (events k c begin from left s.polls s.floor (first_id from (staying_of s.clock (channel_of c s.channels).buffer))) h)) (sym (expired-left c s h stands))
+    (subst (λ (found : Option Id). StandsFor (state k c from s found) (onto (events k c begin from (left_events c h) s.polls s.floor found) h)) (sym (found-is c from s h stands)) (by_found (finds c from h) refl))
   where
-    in-turn : (found : Option Id) → StandsFor (state k c from s found) (Quiet ∷ onto (found_events k c s.polls found) (looked k c from s.polls s.floor found h)) → StandsFor (state k c from s found) (onto (events k c from (left_events c h) s.polls s.floor found) h)
+    in-turn : (found : Option Id) → StandsFor (state k c from s found) (Quiet ∷ onto (found_events k c s.polls found) (looked k c begin from s.polls s.floor found h)) → StandsFor (state k c from s found) (onto (events k c begin from (left_events c h) s.polls s.floor found) h)
     in-turn found stood =
         let look = Looked 0 s.polls 0 s.polls c from s.floor found in
         subst (StandsFor (state k c from s found)) (sym
-        (onto-append (left_events c h ++ look ∷ found_events k c s.polls found) (Quiet ∷ []) (begun k c from h)
-        ∙ ap (λ (l : List Event). Quiet ∷ l) (onto-append (left_events c h) (look ∷ found_events k c s.polls found) (begun k c from h)))) stood
+        (onto-append (left_events c h ++ look ∷ found_events k c s.polls found) (Quiet ∷ []) (begun k c begin from h)
+        ∙ ap (λ (l : List Event). Quiet ∷ l) (onto-append (left_events c h) (look ∷ found_events k c s.polls found) (begun k c begin from h)))) stood
 
-    by_found : (found : Option Message) → finds c from h ≡ found → StandsFor (state k c from s (found_id found)) (onto (events k c from (left_events c h) s.polls s.floor (found_id found)) h)
-    by_found None is = in-turn None (stands-quiet _ _ (stands-entered k c from s h stands new is))
-    by_found (Some m) is = in-turn (Some m.id) (stands-quiet _ _ (stands-answered k c from s h m stands new is))
+    by_found : (found : Option Message) → finds c from h ≡ found → StandsFor (state k c from s (found_id found)) (onto (events k c begin from (left_events c h) s.polls s.floor (found_id found)) h)
+    by_found None is = in-turn None (stands-quiet _ _ (stands-entered k c begin from s h starts stands new is))
+    by_found (Some m) is = in-turn (Some m.id) (stands-quiet _ _ (stands-answered k c begin from s h m starts stands new is))

@@ -1,19 +1,19 @@
 -- Each line leads from what the state stands for to what the state after it stands for, and tells its events.
-use Rattle.std.proofs.Common.{◌≡◌, ℕ, ◌+◌, ◌<◌, ◌≤◌, max, List, refl, sym, subst, ◌∙◌, arith, Option, Some, None}
-use Rattle.nc_types.specs.Id.{Id, no_id}
+use Rattle.std.proofs.Common.{◌≡◌, ℕ, ◌+◌, ◌<◌, ◌≤◌, max, List, [], ◌∷◌, refl, sym, subst, ◌∙◌, arith, Option, Some, None}
+use Rattle.nc_types.specs.Id.{Id}
 use Rattle.nc_journal.specs.declared.event.Event.{Event}
 use Rattle.nc_journal.specs.History.{onto}
 use Rattle.nc_journal.specs.Stamp.{next_id}
 use Rattle.nc_journal.proofs.Standings.{absent-unless}
 use Rattle.nc_replay.specs.declared.engine.Channel.{Channel}
 use Rattle.nc_replay.specs.declared.engine.Waiting.{Waiting}
-use Rattle.nc_replay.specs.declared.line.Line.{Line}
-use Rattle.nc_replay.specs.declared.line.Line.TheVariants.{Clock, Reap, Post, Poll}
-use Rattle.nc_replay.specs.Told.{Tells, IsNew}
+use Rattle.nc_script.specs.declared.line.Line.{Line}
+use Rattle.nc_script.specs.declared.line.Line.TheVariants.{Blank, Clock, Reap, Post, Poll}
+use Rattle.nc_replay.specs.Told.{Tells, IsNew, start_id}
 use Rattle.nc_replay.specs.Machine.{State, start, events_of, after, next_stamp, channel_of, touched, first_id, posted, polled, waiting_of, after_clock, after_reap, after_post, after_poll, Fits}
 use Rattle.nc_replay.proofs.Channels.{channel-name, each-channel, channel-touched}
 use Rattle.nc_replay.proofs.Stand.{StandsFor, stands-quiet, stands-clock, ends-at-last}
-use Rattle.nc_replay.proofs.Poll.{stands-poll, tells-poll}
+use Rattle.nc_replay.proofs.Poll.{Starts, stands-poll, tells-poll}
 use Rattle.nc_replay.proofs.Post.{stands-post, tells-post}
 use Rattle.nc_replay.proofs.Reap.{stands-reap, tells-reap}
 
@@ -25,9 +25,12 @@ pub record HasCome (s : State) (n : ℕ) : Type 0 where
   pub posts : s.posts ≤ n
   pub polls : s.polls ≤ n
 
--- the clock of a line is within its limit
+-- the clock of a line is within its limit, and a poll has one channel and begins behind its start
 abbrev pub IsWithin : Line → Type 0
-IsWithin (Clock t) = t ≤ 4102444800
+IsWithin (Clock w t) = t ≤ 4102444800
+IsWithin (Poll w k [] begin) = ⊥
+IsWithin (Poll w k (c ∷ []) begin) = Starts c begin (start_id begin)
+IsWithin (Poll w k (c ∷ (d ∷ cs)) begin) = ⊥
 IsWithin _ = Unit {0}
 
 -- what a line makes of a state and a history
@@ -42,6 +45,9 @@ stamp-time clock floor last n clock-within floor-within last-within = grind arit
 
 come-clock : (t : ℕ) (s : State) (n : ℕ) → t ≤ 4102444800 → HasCome s n → HasCome (after_clock t s) (n + 1)
 come-clock t s n within come = record { clock = within; floor = omega (arith, come.floor); last = come.last; posts = omega (arith, come.posts); polls = omega (arith, come.polls) }
+
+come-blank : (s : State) (n : ℕ) → HasCome s n → HasCome s (n + 1)
+come-blank s n come = record { clock = come.clock; floor = omega (arith, come.floor); last = come.last; posts = omega (arith, come.posts); polls = omega (arith, come.polls) }
 
 come-reap : (s : State) (n : ℕ) → HasCome s n → HasCome (after_reap s) (n + 1)
 come-reap s n come = record {
@@ -86,16 +92,19 @@ come-poll k c from s n come =
     }
 
 pub makes-line : (s : State) (h : List Event) (l : Line) (n : ℕ) → n < 4294967295 → StandsFor s h → HasCome s n → IsWithin l → IsNew h l → Makes s h l n
-makes-line s h (Clock t) n few stands come within new = record { tells = refl; stands = stands-quiet _ _ (stands-clock t s h stands); come = come-clock t s n within come }
-makes-line s h Reap n few stands come within new = record { tells = tells-reap s h stands; stands = stands-reap s h stands; come = come-reap s n come }
-makes-line s h (Post c body) n few stands come within new =
+makes-line s h Blank n few stands come within new = record { tells = refl; stands = stands; come = come-blank s n come }
+makes-line s h (Clock w t) n few stands come within new = record { tells = refl; stands = stands-quiet _ _ (stands-clock t s h stands); come = come-clock t s n within come }
+makes-line s h (Reap w) n few stands come within new = record { tells = tells-reap s h stands; stands = stands-reap s h stands; come = come-reap s n come }
+makes-line s h (Post w c body) n few stands come within new =
     let time = stamp-time s.clock s.floor (channel_of c s.channels).last n come.clock come.floor (come.last c) in
     record { tells = tells-post c body s h stands; stands = stands-post c body s h (omega (arith, time)) stands; come = come-post c s n time come }
-makes-line s h (Poll k c) n few stands come within new = record {
-  tells = tells-poll k c no_id s h stands;
-  stands = stands-poll k c no_id s h stands (absent-unless k 0 h stands.good.standing new);
-  come = come-poll k c no_id s n come;
+makes-line s h (Poll w k [] begin) n few stands come within new = absurd within
+makes-line s h (Poll w k (c ∷ []) begin) n few stands come within new = record {
+  tells = tells-poll k c begin s h stands;
+  stands = stands-poll k c begin (start_id begin) s h within stands (absent-unless k 0 h stands.good.standing new);
+  come = come-poll k c (start_id begin) s n come;
 }
+makes-line s h (Poll w k (c ∷ (d ∷ cs)) begin) n few stands come within new = absurd within
 
 pub come-fits : (s : State) (h : List Event) (n : ℕ) → n < 4294967295 → StandsFor s h → HasCome s n → Fits s
 come-fits s h n few stands come = record { clock = come.clock; floor = omega (arith, come.floor); last = come.last; order = stands.order; kept = λ c. ends-at-last c s h stands; posts = omega (arith, come.posts); polls = omega (arith, come.polls) }

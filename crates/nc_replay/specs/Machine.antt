@@ -7,7 +7,7 @@ use Rattle.std.specs.Ordering.{nat_cmp, is_lt}
 use Rattle.nc_types.specs.Id.{Id, is_past, no_id}
 use Rattle.nc_types.specs.Cursor.{cursor_of}
 use Rattle.nc_types.specs.Channel.{name_eq}
-use Rattle.nc_types.specs.declared.start.Start.TheVariants.{Given}
+use Rattle.nc_types.specs.declared.start.Start.{Start}
 use Rattle.nc_journal.specs.Stamp.{next_id}
 use Rattle.nc_journal.specs.declared.word.ModeLine.TheVariants.{Direct}
 use Rattle.nc_journal.specs.declared.event.Event.{Event}
@@ -18,9 +18,9 @@ use Rattle.nc_buffer.specs.declared.entry.Entry.{Entry}
 use Rattle.nc_buffer.specs.Buffer.{is_expired}
 use Rattle.nc_replay.specs.declared.engine.Channel.{Channel}
 use Rattle.nc_replay.specs.declared.engine.Waiting.{Waiting}
-use Rattle.nc_replay.specs.declared.line.Line.{Line}
-use Rattle.nc_replay.specs.declared.line.Line.TheVariants.{Clock, Reap, Post, Poll}
-use Rattle.nc_replay.specs.Told.{sends, AreInOrder}
+use Rattle.nc_script.specs.declared.line.Line.{Line}
+use Rattle.nc_script.specs.declared.line.Line.TheVariants.{Blank, Clock, Reap, Post, Poll}
+use Rattle.nc_replay.specs.Told.{sends, AreInOrder, start_id}
 
 -- what the engine keeps: its clock and floor, how many posts and polls there were, and its channels
 pub record State : Type 0 where
@@ -158,9 +158,9 @@ after_post c s =
     let id = next_stamp c s in
     record s { floor = max s.floor id.time; posts = s.posts + 1; channels = with_channel c (posted id (s.clock + 3600) (touched s.clock (channel_of c s.channels))) s.channels }
 
--- a subscriber begins behind an id
-abbrev pub begins : ℕ → List ℕ → Id → List Event
-begins k c from = Subscribed 0 k None (c ∷ []) Direct (Given (cursor_of from)) 0 false ∷ Started 0 k (cursor_of from) ∷ []
+-- a subscriber with a start begins behind an id
+abbrev pub begins : ℕ → List ℕ → Start → Id → List Event
+begins k c begin from = Subscribed 0 k None (c ∷ []) Direct begin 0 false ∷ Started 0 k (cursor_of from) ∷ []
 
 abbrev pub found_events : ℕ → List ℕ → ℕ → Option Id → List Event
 found_events k c look None = []
@@ -172,11 +172,11 @@ look_events w floor channel =
     let found = first_id w.from channel.buffer in
     Looked 0 w.look 0 w.look channel.name w.from floor found ∷ found_events w.k channel.name w.look found
 
-abbrev pub poll_events : ℕ → List ℕ → Id → State → List Event
-poll_events k c from s =
+abbrev pub poll_events : ℕ → List ℕ → Start → Id → State → List Event
+poll_events k c begin from s =
     let channel = channel_of c s.channels in
     let found = first_id from (staying_of s.clock channel.buffer) in
-    begins k c from ++ map (entry_left c Expired) (expired_of s.clock channel.buffer) ++ Looked 0 s.polls 0 s.polls c from s.floor found ∷ found_events k c s.polls found ++ Quiet ∷ []
+    begins k c begin from ++ map (entry_left c Expired) (expired_of s.clock channel.buffer) ++ Looked 0 s.polls 0 s.polls c from s.floor found ∷ found_events k c s.polls found ++ Quiet ∷ []
 
 abbrev pub waiting_of : ℕ → Id → ℕ → Waiting
 waiting_of k from look = record { k = k; from = from; look = look }
@@ -196,18 +196,22 @@ reap_events s = flat_map (channel_left s.clock) s.channels ++ Quiet ∷ []
 abbrev pub after_reap : State → State
 after_reap s = record s { channels = map (touched s.clock) s.channels }
 
--- the events of a line and the state after it; a poll begins before every message
+-- the events of a line and the state after it; a poll has one channel
 abbrev pub events_of : Line → State → List Event
-events_of (Clock t) s = clock_events t
-events_of Reap s = reap_events s
-events_of (Post c body) s = post_events c body s
-events_of (Poll k c) s = poll_events k c no_id s
+events_of Blank s = []
+events_of (Clock w t) s = clock_events t
+events_of (Reap w) s = reap_events s
+events_of (Post w c body) s = post_events c body s
+events_of (Poll w k [] begin) s = []
+events_of (Poll w k (c ∷ cs) begin) s = poll_events k c begin (start_id begin) s
 
 abbrev pub after : Line → State → State
-after (Clock t) s = after_clock t s
-after Reap s = after_reap s
-after (Post c body) s = after_post c s
-after (Poll k c) s = after_poll k c no_id s
+after Blank s = s
+after (Clock w t) s = after_clock t s
+after (Reap w) s = after_reap s
+after (Post w c body) s = after_post c s
+after (Poll w k [] begin) s = s
+after (Poll w k (c ∷ cs) begin) s = after_poll k c (start_id begin) s
 
 -- an id isn't past another
 abbrev pub IsAtMost : Id → Id → Type 0

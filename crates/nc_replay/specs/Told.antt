@@ -7,7 +7,8 @@ use Rattle.std.specs.List.{AllByRecursion, flat_map}
 use Rattle.std.specs.Option.{option_map}
 use Rattle.nc_types.specs.Id.{Id, is_past, no_id}
 use Rattle.nc_types.specs.Cursor.{CursorAt, cursor_id, cursor_of, moved}
-use Rattle.nc_types.specs.declared.start.Start.TheVariants.{Given}
+use Rattle.nc_types.specs.declared.start.Start.{Start}
+use Rattle.nc_types.specs.declared.start.Start.TheVariants.{Oldest, Newest, Given}
 use Rattle.nc_journal.specs.declared.word.ModeLine.TheVariants.{Direct}
 use Rattle.nc_journal.specs.declared.word.EndedCause.TheVariants.{Answered}
 use Rattle.nc_journal.specs.declared.event.Event.{Event}
@@ -19,9 +20,11 @@ use Rattle.nc_journal.specs.Leaving.{is_expired}
 use Rattle.nc_journal.specs.declared.word.LeftCause.{LeftCause}
 use Rattle.nc_journal.specs.declared.word.LeftCause.TheVariants.{Length, Expired}
 use Rattle.nc_journal.specs.Standing.{Stage, Standing, stage_of, is_subscribed}
-use Rattle.nc_replay.specs.declared.line.Line.{Line}
-use Rattle.nc_replay.specs.declared.line.Line.TheVariants.{Clock, Reap, Post, Poll}
-use Rattle.nc_replay.specs.Script.{Spells}
+use Rattle.nc_script.specs.declared.line.Line.{Line}
+use Rattle.nc_script.specs.declared.line.Line.TheVariants.{Blank, Clock, Reap, Post, Poll}
+use Rattle.nc_script.specs.Judge.{Judge, next}
+use Rattle.nc_script.specs.Line.{line}
+use Rattle.nc_script.specs.Script.{HasNumberAt}
 
 -- how many messages were stored
 abbrev pub posts_of : List Event → ℕ
@@ -128,35 +131,46 @@ found_sends k c look (Some m) = sends k c m.id (cursor_of m.id) look
 abbrev pub found_id : Option Message → Option Id
 found_id found = option_map (λ m. m.id) found
 
--- the events of a poll behind an id, by the whole history and the local one
-abbrev pub told_poll : ℕ → List ℕ → Id → List Event → List Event → List Event
-told_poll k c from whole h =
+-- the id behind which a subscriber of one channel starts: nobody starts behind the newest message yet
+abbrev pub start_id : Start → Id
+start_id Oldest = no_id
+start_id Newest = no_id
+start_id (Given cursor) = cursor_id cursor 0
+
+-- the events of a poll with a start, by the whole history and the local one
+abbrev pub told_poll : ℕ → List ℕ → Start → List Event → List Event → List Event
+told_poll k c begin whole h =
+    let from = start_id begin in
     let found = find (λ m. is_past m.id from) (staying c whole h) in
-    Subscribed 0 k None (c ∷ []) Direct (Given (cursor_of from)) 0 false ∷ Started 0 k (cursor_of from) ∷ map (leaves c Expired) (expired c whole h)
+    Subscribed 0 k None (c ∷ []) Direct begin 0 false ∷ Started 0 k (cursor_of from) ∷ map (leaves c Expired) (expired c whole h)
     ++ Looked 0 (polls_of h) 0 (polls_of h) c from (floor_of h) (found_id found) ∷ found_sends k c (polls_of h) found ++ Quiet ∷ []
 
--- the events that a line tells after a history
+-- the events that a line of the one worker tells after a history; a poll has one channel
 abbrev pub Tells : List Event → Line → List Event → Type 0
-Tells h (Clock t) es = es ≡ ClockEvent 0 t ∷ Quiet ∷ []
-Tells h Reap es = (cs : List (List ℕ)) × AreInOrder cs × AllExpired cs h (own 0 h) × (es ≡ flat_map (λ c. map (leaves c Expired) (expired c h (own 0 h))) cs ++ Quiet ∷ [])
-Tells h (Post c body) es = (ks : List ℕ) × AreStanding c (own 0 h) ks × (es ≡ told_post c body ks h (own 0 h))
-Tells h (Poll k c) es = es ≡ told_poll k c no_id h (own 0 h)
+Tells h Blank es = es ≡ []
+Tells h (Clock w t) es = es ≡ ClockEvent 0 t ∷ Quiet ∷ []
+Tells h (Reap w) es = (cs : List (List ℕ)) × AreInOrder cs × AllExpired cs h (own 0 h) × (es ≡ flat_map (λ c. map (leaves c Expired) (expired c h (own 0 h))) cs ++ Quiet ∷ [])
+Tells h (Post w c body) es = (ks : List ℕ) × AreStanding c (own 0 h) ks × (es ≡ told_post c body ks h (own 0 h))
+Tells h (Poll w k (c ∷ []) begin) es = es ≡ told_poll k c begin h (own 0 h)
+Tells h (Poll w k _ begin) es = ⊥
 
 -- a poll takes a number that no earlier line used
 abbrev pub IsNew : List Event → Line → Type 0
-IsNew h (Poll k c) = is_subscribed k (own 0 h) ≡ false
+IsNew h (Poll w k list begin) = is_subscribed k (own 0 h) ≡ false
 IsNew h _ = Unit {0}
 
--- what a text says after a history
-pub record Says (h : List Event) (text : List ℕ) (line : Line) : Type 0 where
-  pub spells : Spells text line
-  pub new : IsNew h line
+-- rule 10: so it does
+abbrev pub new_number : List Event → List ℕ → Line → Judge Line
+new_number h text said = record {
+  Says = λ l. (l ≡ said) × IsNew h said;
+  Breaks = λ rule at. (rule ≡ 10) × (IsNew h said → ⊥) × HasNumberAt text at;
+}
 
--- a text that is out of form after a history
-abbrev pub IsFaulty : List Event → List ℕ → Type 0
-IsFaulty h text = (line : Line) → Says h text line → ⊥
+-- a line of a script of one worker, after a history
+abbrev pub line_after : List Event → List ℕ → Judge Line
+line_after h text = next (line 1 text) (new_number h text)
 
 -- the texts of some lines, made one after the other, lead from a history to another
 abbrev pub Leads : List Event → List (List ℕ) → List Event → Type 0
 Leads h [] after = after ≡ h
-Leads h (text ∷ texts) after = (line : Line) × (es : List Event) × Says h text line × Tells h line es × Leads (onto es h) texts after
+Leads h (text ∷ texts) after = (l : Line) × (es : List Event) × (line_after h text).Says l × Tells h l es × Leads (onto es h) texts after

@@ -5,13 +5,12 @@
 ghost use Rattle.std.specs.Prelude.{◌≡◌, ◌∷◌, ◌++◌, [], ◌<◌, ◌≤◌, length, map, IfOk, OnOk, MatchResult, None, Some, filter};
 ghost use Rattle.std.specs.List.{flat_map};
 ghost use Rattle.nc_types.specs.Id.{Id, no_id, is_past};
-ghost use Rattle.nc_types.specs.Cursor.{cursor_of};
-ghost use Rattle.nc_types.specs.declared.start.Start.TheVariants.{Given};
+ghost use Rattle.nc_types.specs.Cursor.{cursor_id, cursor_of};
 ghost use Rattle.nc_journal.specs.Stamp.{next_id};
 ghost use Rattle.nc_journal.specs.declared.event.Event.TheVariants.{Looked, Quiet};
 ghost use Rattle.nc_journal.specs.declared.word.LeftCause.TheVariants.{Length, Expired};
 ghost use Rattle.nc_buffer.specs.Buffer.{IsPastAll};
-ghost use Rattle.nc_replay.specs.Told.{sends, AreInOrder};
+ghost use Rattle.nc_replay.specs.Told.{sends, start_id, AreInOrder};
 ghost use Rattle.nc_replay.specs.Machine.{Fits, no_channel, first_id, enter, place_among, is_before, names_of, IsPlaceOf, IsPlaceFrom, IsPlaceFor, stored_in, shortened, touched, polled, is_unsent, expired_of, staying_of, surplus_of, within_of, entry_left, channel_left, sends_waiting, stored_events, look_events, begins, start, clock_events, post_events, poll_events, reap_events, after_clock, after_post, after_poll, after_reap};
 
 use nc_buffer::{Buffer, Entry};
@@ -362,15 +361,35 @@ fn same_id(id: &Option<MsgId>) -> Option<MsgId>
     }
 }
 
+/// The id that a cursor has for its first channel.
+fn first_id_of(cursor: &Cursor) -> MsgId
+    ensures { result ≡ cursor_id cursor.now 0 }
+{
+    // a cursor has a tag at least, as a use of its fields tells
+    let _ = &cursor.tags;
+    cursor.at(0)
+}
+
+/// The id behind which a subscriber of one channel starts.
+fn start_id(start: &Start) -> MsgId
+    ensures { result ≡ start_id start.now }
+{
+    match start {
+        Start::Oldest | Start::Newest => MsgId::NONE,
+        Start::Given(cursor) => first_id_of(cursor),
+    }
+}
+
 /// The two events of a subscriber that begins go onto the events.
 fn put_beginning(
     alloc: Global,
     events: &mut Vec<Event>,
     k: u64,
     name: &ChanName,
+    start: Start,
     from: &MsgId,
 ) -> Result<(), NoMemory>
-    ensures { OnOk result (events.new.items ≡ events.old.items ++ begins k name.now from.now) }
+    ensures { OnOk result (events.new.items ≡ events.old.items ++ begins k name.now start from.now) }
 {
     let mut names = List::new(alloc);
     names.push(name.copied()?)?;
@@ -380,7 +399,7 @@ fn put_beginning(
         conn: None,
         list: ChanList { names },
         mode: ModeLine::Direct,
-        start: Start::Given(cursor_of(alloc, from)?),
+        start,
         timeout: 0,
         close: false,
     })?;
@@ -518,12 +537,15 @@ impl Engine {
         ended(events)
     }
 
-    /// A direct subscriber begins behind the id `from`. After `NoMemory` the engine is only dropped.
-    pub fn poll(&mut self, k: u64, name: &ChanName, from: MsgId) -> Result<EventList, NoMemory>
+    /// A direct subscriber of a channel begins. After `NoMemory` the engine is only dropped.
+    ///
+    /// A script has no start behind the newest message yet; it would begin before every message.
+    pub fn poll(&mut self, k: u64, name: &ChanName, start: Start) -> Result<EventList, NoMemory>
         requires { Fits self.old }
-        ensures state { OnOk result (self.new ≡ after_poll k name.now from self.old) }
-        ensures events { IfOk result (λ done. done.events ≡ poll_events k name.now from self.old) }
+        ensures state { OnOk result (self.new ≡ after_poll k name.now (start_id start) self.old) }
+        ensures events { IfOk result (λ done. done.events ≡ poll_events k name.now start (start_id start) self.old) }
     {
+        let from = start_id(&start);
         let subscriber = Waiting {
             k,
             from,
@@ -532,7 +554,7 @@ impl Engine {
         let at = place_for(self.alloc, &mut self.channels, name)?;
         let channel = &mut self.channels[at];
         let mut events = Vec::new(self.alloc);
-        put_beginning(self.alloc, &mut events, k, name, &from)?;
+        put_beginning(self.alloc, &mut events, k, name, start, &from)?;
         channel.touch(&mut events, self.clock)?;
         channel.look(self.alloc, &mut events, subscriber, self.floor)?;
         self.polls += 1;

@@ -1,11 +1,5 @@
 //! Laws of the definitions in `specs/`, for the reader: each is proved, and none is run.
-ghost use Rattle.nc_replay.specs.Script.{SpellsOneLine};
 ghost use Rattle.nc_replay.specs.Told.{StoresItsOrder};
-
-/// A text spells at most one line.
-pub fn text_spells_one_line()
-    ensures { SpellsOneLine }
-{}
 
 /// The stored event that a post tells keeps what was ordered: the length, the type and the body,
 /// and it expires the time-out after the clock.

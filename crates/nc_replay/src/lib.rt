@@ -1,13 +1,13 @@
 //! The replay: a script comes in, its lines are made, and the journal goes out.
 //!
-//! Below stand `nc_types`, `nc_outside`, `nc_journal` and `nc_buffer`; above stands the program.
+//! Below stand `nc_types`, `nc_outside`, `nc_journal`, `nc_buffer` and `nc_script`; above stands the program.
 #![tactic(auto)]
 
 mod command;
 mod engine;
+mod fault;
 mod input;
 mod laws;
-mod line;
 mod replay;
 mod script;
 #[cfg(test)]
@@ -16,4 +16,4 @@ mod tests;
 mod top_tests;
 
 pub use command::top;
-pub use laws::{post_stores_its_order, text_spells_one_line};
+pub use laws::post_stores_its_order;

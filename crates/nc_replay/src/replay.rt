@@ -4,19 +4,24 @@
 ghost use Rattle.std.specs.Prelude.{◌≡◌, ◌≤◌, ◌⊎◌, length, IfOk, OnOk, OnErr, IsErrOf, IfNone, IfSome};
 ghost use Rattle.nc_journal.specs.Text.{lines_text};
 ghost use Rattle.nc_outside.specs.Fault.{HasRisen};
-ghost use Rattle.nc_replay.specs.Script.{lines_of, Finds};
+ghost use Rattle.nc_script.specs.Judge.{Judged};
+ghost use Rattle.nc_replay.specs.Script.{lines_of};
 ghost use Rattle.nc_replay.specs.Machine.{Fits, events_of, after};
-ghost use Rattle.nc_replay.specs.Run.{is_among, takes_new, used_after, SaysNew, MakesAll, MakesUntil, MakesSome};
+ghost use Rattle.nc_replay.specs.Run.{is_among, takes_new, used_after, new_line, IsFirstName, MakesAll, MakesUntil, MakesSome};
 ghost use Rattle.nc_replay.specs.declared.replay.Stop.TheVariants.{Sink as SinkStop, NoMemory as NoMemoryStop};
 
 use crate::engine::Engine;
+use crate::fault::Fault;
 use crate::input::write_all;
-use crate::line::Line;
-use crate::script::{first_line, read_line, rest_after};
+use crate::script::{first_line, rest_after};
 use nc_journal::{EventList, put_lines};
 use nc_outside::{Failed, Sink};
-use nc_types::{MsgId, NoMemory};
+use nc_script::{Line, LineFault, place_of, read_line};
+use nc_types::{ChanList, ChanName, List, NoMemory};
 use std::alloc::{AllocError, Global};
+
+/// How many workers there are.
+const WORKERS: u8 = 1;
 
 /// Why the making of lines stops before their end.
 #[derive(Clone, Copy, Debug, PartialEq, Eq)]
@@ -59,34 +64,50 @@ fn takes_new(used: &[u64], line: &Line) -> bool
     }
 }
 
-/// What a line says, where it is in form and takes no number that was used.
-fn admit(alloc: Global, used: &[u64], text: &[u8]) -> Result<Option<Line>, NoMemory>
-    ensures { IfOk result (Finds (SaysNew used.now text.now)) }
+/// Reads a line, which may take no number that was used.
+fn admit(alloc: Global, used: &[u64], text: &[u8]) -> Result<Line, LineFault>
+    ensures { Judged (new_line used.now text.now) result }
 {
-    let Some(line) = read_line(alloc, text)? else {
-        return Ok(None);
-    };
+    let line = read_line(alloc, text, WORKERS)?;
     if takes_new(used, &line) {
-        Ok(Some(line))
-    } else {
-        Ok(None)
+        return Ok(line);
     }
+    drop(line);
+    Err(LineFault::Rule {
+        rule: 10,
+        at: place_of(text, 10),
+    })
+}
+
+/// The first channel of a list.
+fn first_name(list: &ChanList) -> &ChanName
+    ensures { IsFirstName list.now result.now }
+{
+    &list.names.as_slice()[0]
 }
 
 /// Makes a line, and gives its events.
-fn make(engine: &mut Engine, used: &mut Vec<u64>, line: Line) -> Result<EventList, NoMemory>
+fn make(
+    alloc: Global,
+    engine: &mut Engine,
+    used: &mut Vec<u64>,
+    line: Line,
+) -> Result<EventList, NoMemory>
     requires { Fits engine.old }
     ensures events { IfOk result (λ done. done.events ≡ events_of line engine.old) }
     ensures engine { OnOk result (engine.new ≡ after line engine.old) }
     ensures used { OnOk result (used.new.items ≡ used_after line used.old.items) }
 {
     match line {
-        Line::Clock { t } => engine.set_clock(t),
-        Line::Reap => engine.reap(),
-        Line::Post { name, body } => engine.post(&name, body),
-        Line::Poll { k, name } => {
+        Line::Blank => Ok(EventList {
+            events: List::new(alloc),
+        }),
+        Line::Clock { t, .. } => engine.set_clock(t),
+        Line::Reap { .. } => engine.reap(),
+        Line::Post { chan, body, .. } => engine.post(&chan, body),
+        Line::Poll { k, list, start, .. } => {
             used.push(k)?;
-            engine.poll(k, &name, MsgId::NONE)
+            engine.poll(k, first_name(&list), start)
         }
     }
 }
@@ -102,8 +123,8 @@ fn text_of(alloc: Global, done: &EventList) -> Result<Vec<u8>, NoMemory>
 
 /// Makes the lines of a text behind a script's first line, and writes the events of each.
 ///
-/// It gives the number that the first line out of form has in the script, if one is.
-pub fn replay_lines<K: Sink>(alloc: Global, text: &[u8], out: &mut K) -> Result<Option<u64>, Stop>
+/// It gives what is wrong with the first line that breaks a rule, if one does.
+pub fn replay_lines<K: Sink>(alloc: Global, text: &[u8], out: &mut K) -> Result<Option<Fault>, Stop>
     requires { length text.now ≤ 67108864 }
     ensures all { IfOk result (λ fault. IfNone fault (MakesAll (lines_of text.now) (K.taken out.old) (K.taken out.new))) }
     ensures until { IfOk result (λ fault. IfSome fault (MakesUntil (lines_of text.now) (K.taken out.old) (K.taken out.new))) }
@@ -117,10 +138,18 @@ pub fn replay_lines<K: Sink>(alloc: Global, text: &[u8], out: &mut K) -> Result<
     let mut rest = text;
     let mut number = 2;
     while rest.len() > 0 {
-        let Some(line) = admit(alloc, &used, first_line(rest))? else {
-            return Ok(Some(number));
+        let line = match admit(alloc, &used, first_line(rest)) {
+            Ok(line) => line,
+            Err(LineFault::NoMemory) => return Err(Stop::NoMemory),
+            Err(LineFault::Rule { rule, at }) => {
+                return Ok(Some(Fault {
+                    line: number,
+                    rule,
+                    at,
+                }));
+            }
         };
-        let events = make(&mut engine, &mut used, line)?;
+        let events = make(alloc, &mut engine, &mut used, line)?;
         let lines = text_of(alloc, &events)?;
         write_all(out, &lines)?;
         rest = rest_after(rest);

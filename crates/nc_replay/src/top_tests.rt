@@ -213,6 +213,72 @@ quiet
 quiet
 ";
 
+/// Three posts of one second, and polls with other starts than `0:-`; empty lines and comments do nothing.
+const STARTS: &str = "\
+---
+# three messages
+
+clock 0 100
+post 0 a \"x\"
+post 0 a \"\\x79\"
+post 0 a\"z\"
+#
+poll 0 1 a 100:1
+poll  0 2  a oldest
+poll 0 3 a,a 00100:[2]
+";
+
+const STARTS_JOURNAL: &str = "\
+clock w=0 t=100
+quiet
+stored w=0 c=\"a\" id=100:0 slot=0 len=10 exp=3700 kept=1 members=0 from=0 r=0 ct=- body=\"x\"
+quiet
+stored w=0 c=\"a\" id=100:1 slot=0 len=10 exp=3700 kept=1 members=0 from=0 r=1 ct=- body=\"y\"
+quiet
+stored w=0 c=\"a\" id=100:2 slot=0 len=10 exp=3700 kept=1 members=0 from=0 r=2 ct=- body=\"z\"
+quiet
+subscribed w=0 k=1 conn=- list=\"a\" mode=direct start=100:1 timeout=0 close=0
+started w=0 k=1 cur=100:1
+looked w=0 q=0 from=0 no=0 c=\"a\" after=100:1 floor=100 found=100:2
+sent w=0 k=1 i=0 c=\"a\" id=100:2 cur=100:2 looks=0
+ended w=0 k=1 cause=answered
+quiet
+subscribed w=0 k=2 conn=- list=\"a\" mode=direct start=oldest timeout=0 close=0
+started w=0 k=2 cur=0:-
+looked w=0 q=1 from=0 no=1 c=\"a\" after=0:- floor=100 found=100:0
+sent w=0 k=2 i=0 c=\"a\" id=100:0 cur=100:0 looks=1
+ended w=0 k=2 cause=answered
+quiet
+subscribed w=0 k=3 conn=- list=\"a\" mode=direct start=100:2 timeout=0 close=0
+started w=0 k=3 cur=100:2
+looked w=0 q=2 from=0 no=2 c=\"a\" after=100:2 floor=100 found=-
+quiet
+";
+
+/// A message whose moment has come, which nothing touched before the clock went back.
+const UNTOUCHED: &str = "\
+---
+post 0 a \"x\"
+clock 0 3600
+clock 0 3599
+poll 0 1 a oldest
+";
+
+const UNTOUCHED_JOURNAL: &str = "\
+stored w=0 c=\"a\" id=0:0 slot=0 len=10 exp=3600 kept=1 members=0 from=0 r=0 ct=- body=\"x\"
+quiet
+clock w=0 t=3600
+quiet
+clock w=0 t=3599
+quiet
+subscribed w=0 k=1 conn=- list=\"a\" mode=direct start=oldest timeout=0 close=0
+started w=0 k=1 cur=0:-
+looked w=0 q=0 from=0 no=0 c=\"a\" after=0:- floor=0 found=0:0
+sent w=0 k=1 i=0 c=\"a\" id=0:0 cur=0:0 looks=0
+ended w=0 k=1 cause=answered
+quiet
+";
+
 #[test]
 fn journals(rt: HostRuntime) -> Result<(), Fail> {
     for (script, journal) in [
@@ -222,6 +288,8 @@ fn journals(rt: HostRuntime) -> Result<(), Fail> {
         (HOUR, HOUR_JOURNAL),
         (YOUNGER_FIRST, YOUNGER_FIRST_JOURNAL),
         (REAP, REAP_JOURNAL),
+        (STARTS, STARTS_JOURNAL),
+        (UNTOUCHED, UNTOUCHED_JOURNAL),
         ("---", ""),
         ("---\n", ""),
     ] {
@@ -274,21 +342,20 @@ fn one_post(alloc: Global, name: &str, body: &str) -> Result<String, NoMemory> {
 #[test]
 fn lengths(rt: HostRuntime) -> Result<(), Fail> {
     let alloc = rt.alloc();
-    for (name, body, is_made) in [
-        (1, 65_536, true),
-        (1_024, 0, true),
-        (1_025, 1, false),
-        (1, 65_537, false),
-        (0, 1, false),
+    for (name, body, fault) in [
+        (1, 65_536, None),
+        (1_024, 0, None),
+        (1_025, 1, Some("fault line=2 rule=7 at=7\n")),
+        (1, 65_537, Some("fault line=2 rule=6 at=9\n")),
+        (0, 1, Some("fault line=2 rule=3 at=11\n")),
     ] {
         let name = "n".repeat(alloc, name)?;
         let body = " ".repeat(alloc, body)?;
         let script = format!(in alloc; "---\npost 0 {name} \"{body}\"")?;
         let journal = one_post(alloc, &name, &body)?;
-        let want = if is_made {
-            (0, journal.as_str())
-        } else {
-            (3, "fault line=2\n")
+        let want = match fault {
+            None => (0, journal.as_str()),
+            Some(text) => (3, text),
         };
         let (status, out) = replayed(alloc, &script)?;
         assert!(rt;
@@ -302,21 +369,21 @@ fn lengths(rt: HostRuntime) -> Result<(), Fail> {
 }
 
 #[test]
-fn first_lines(rt: HostRuntime) -> Result<(), Fail> {
-    for script in [
-        "",
-        "\n---",
-        "--",
-        "----",
-        "--- ",
-        " ---",
-        "---\r\n",
-        "# a\n---",
-        "clock 0 7\n",
+fn configurations(rt: HostRuntime) -> Result<(), Fail> {
+    for (script, fault) in [
+        ("", "config rule=2 at=0\n"),
+        ("--", "config rule=2 at=2\n"),
+        ("----", "config rule=2 at=4\n"),
+        ("--- ", "config rule=2 at=4\n"),
+        ("---\r\n", "config rule=2 at=5\n"),
+        ("clock 0 7\n", "config rule=2 at=10\n"),
+        ("\n---", "config rule=3 at=0\n"),
+        ("# a\n---", "config rule=3 at=0\n"),
+        ("a\n\n---\nclock 0 7\n---\n", "config rule=3 at=0\n"),
     ] {
         let (status, out) = replayed(rt.alloc(), script)?;
-        assert_eq!(rt; status, 3, "{script}");
-        assert_eq!(rt; out.bytes(), b"fault line=1\n".as_slice(), "{script}");
+        assert_eq!(rt; status, 8, "{script}");
+        assert_eq!(rt; out.bytes(), fault.as_bytes(), "{script}");
     }
     Ok(())
 }
@@ -324,29 +391,27 @@ fn first_lines(rt: HostRuntime) -> Result<(), Fail> {
 #[test]
 fn faults(rt: HostRuntime) -> Result<(), Fail> {
     let alloc = rt.alloc();
-    for line in [
-        "",
-        "# a",
-        "---",
-        "clock  0 7",
-        "clock 1 7",
-        "clock 0 7 ",
-        "clock 0 0000000000000000007",
-        "clock 0 4102444801",
-        "post 0 a-b \"x\"",
-        "post 0  \"x\"",
-        "post 0 a \"x\\n\"",
-        "post 0 a \"x",
-        "poll 0 65536 a 0:-",
-        "poll 0 2 a 0:0",
-        "poll 0 1 b 0:-",
-        "poll 0 001 a 0:-",
-        "reap",
-        "reap 1",
-        "reap 0 a",
+    for (line, fault) in [
+        ("---", "rule=2 at=0"),
+        (" reap 0", "rule=2 at=0"),
+        ("drop 0 a", "rule=2 at=0"),
+        ("clock 0 7 ", "rule=3 at=10"),
+        ("post 0 a b \"x\"", "rule=3 at=14"),
+        ("reap", "rule=3 at=4"),
+        ("clock 0 4102444801", "rule=4 at=8"),
+        ("poll 0 65536 a 0:-", "rule=4 at=7"),
+        ("clock 1 7", "rule=5 at=6"),
+        ("post 0 a \"x\\q\"", "rule=6 at=11"),
+        ("post 0 a \"x", "rule=6 at=11"),
+        ("post 0 a\\ \"x\"", "rule=7 at=7"),
+        ("poll 0 2 a,b 0:-", "rule=8 at=9"),
+        ("poll 0 2 a newest", "rule=9 at=11"),
+        ("poll 0 2 a 0:-,-", "rule=9 at=11"),
+        ("poll 0 1 b 0:-", "rule=10 at=7"),
+        ("poll  0 001 a oldest", "rule=10 at=8"),
     ] {
-        let script = format!(in alloc; "{SCRIPT}{line}\nclock 0 7\n")?;
-        let journal = format!(in alloc; "{JOURNAL}fault line=5\n")?;
+        let script = format!(in alloc; "{SCRIPT}\n{line}\nclock 0 7\n")?;
+        let journal = format!(in alloc; "{JOURNAL}fault line=6 {fault}\n")?;
         let (status, out) = replayed(alloc, &script)?;
         assert_eq!(rt; status, 3, "{line}");
         assert_eq!(rt; out.bytes(), journal.as_bytes(), "{line}");
@@ -423,6 +488,16 @@ fn failing_writes(rt: HostRuntime) -> Result<(), Fail> {
         assert_eq!(rt; out.bytes() == whole.bytes(), write == 4, "at {write}");
         assert!(rt; whole.bytes().starts_with(out.bytes()), "at {write}");
     }
+    Ok(())
+}
+
+#[test]
+fn failing_write_of_a_configuration(rt: HostRuntime) -> Result<(), Fail> {
+    let alloc = rt.alloc();
+    let mut input = MemSource::new(list_of(alloc, b"a")?, List::new(alloc));
+    let mut out = MemSink::new(alloc, list_of(alloc, &[0])?);
+    assert_eq!(rt; replay(alloc, &mut input, &mut out)?, 5);
+    assert!(rt; out.bytes().is_empty());
     Ok(())
 }
 

@@ -1,26 +1,17 @@
-use Rattle.std.proofs.lemmas.Result.{on_err_weaker}
-use Rattle.nc_replay.specs.Script.{lines_of}
 use Rattle.nc_replay.specs.Run.{MakesUntil}
-use Rattle.nc_replay.specs.Top.{StopsAt}
-use Rattle.nc_replay.proofs.Ends.{not-by-test, by-test, ok-none, ok-some, stops-first, replays-all, stops-later, cuts-off}
+use Rattle.nc_replay.specs.Script.{lines_of}
+use Rattle.nc_replay.proofs.Loop.{always-err}
+use Rattle.nc_replay.proofs.Ends.{some-holds, stops-later, fault-cut, fault-written}
 use Rattle.nc_replay.proofs.command.replay_script.Goals as goal
 
-pub returns-then-not-has_rule-clause-until : goal.returns-then-not-has_rule-clause-until
-returns-then-not-has_rule-clause-until g c = stops-first c.args.text.now (g.K.Sink.taken c.args.out.now) (not-by-test c.has_rule.result c.has_rule.ensures c.if-not-has_rule.true)
+pub returns-in_err-write_all-clause-some : goal.returns-in_err-write_all-clause-some
+returns-in_err-write_all-clause-some g c =
+    let until = some-holds (MakesUntil (lines_of c.rest_after.result.now) (g.K.Sink.taken c.args.out.now) (g.K.Sink.taken c.replay_lines.new.out)) c.in_ok-fault.field-0 c.in-Some.fault c.in_ok-fault.ensures.until c.in-Some.is in
+    let stops = stops-later c.args.script.now c.rest_after.result.now _ _ c.in-Some.fault c.requires.parted c.rest_after.ensures.rest until in
+    always-err _ _ (fault-cut _ _ _ _ c.in-Some.fault c.in_ok-text.text.items c.deref.result.now c.in_ok-text.ensures c.deref.ensures.value stops c.in_err-write_all.ensures.prefix)
 
-pub returns-clause-all : goal.returns-clause-all
-returns-clause-all g c =
-    let has = by-test c.has_rule.result c.has_rule.ensures c.if-not-has_rule.false in
-    ok-none c.replay_lines.result (replays-all c.args.text.now c.rest_after.result.now (g.K.Sink.taken c.args.out.now) (g.K.Sink.taken c.replay_lines.new.out) has c.rest_after.ensures.rest) c.replay_lines.ensures.all
-
-pub returns-clause-until : goal.returns-clause-until
-returns-clause-until g c =
-    let has = by-test c.has_rule.result c.has_rule.ensures c.if-not-has_rule.false in
-    let old = g.K.Sink.taken c.args.out.now in
-    let new = g.K.Sink.taken c.replay_lines.new.out in
-    ok-some (MakesUntil (lines_of c.rest_after.result.now) old new) (StopsAt c.args.text.now old new) c.replay_lines.result (λ number. stops-later c.args.text.now c.rest_after.result.now old new number has c.rest_after.ensures.rest) c.replay_lines.ensures.until
-
-pub returns-clause-some : goal.returns-clause-some
-returns-clause-some g c =
-    let has = by-test c.has_rule.result c.has_rule.ensures c.if-not-has_rule.false in
-    on_err_weaker c.replay_lines.result (cuts-off c.args.text.now c.rest_after.result.now (g.K.Sink.taken c.args.out.now) (g.K.Sink.taken c.replay_lines.new.out) has c.rest_after.ensures.rest) c.replay_lines.ensures.some
+pub returns-clause-end : goal.returns-clause-end
+returns-clause-end g c =
+    let until = some-holds (MakesUntil (lines_of c.rest_after.result.now) (g.K.Sink.taken c.args.out.now) (g.K.Sink.taken c.replay_lines.new.out)) c.in_ok-fault.field-0 c.in-Some.fault c.in_ok-fault.ensures.until c.in-Some.is in
+    let stops = stops-later c.args.script.now c.rest_after.result.now _ _ c.in-Some.fault c.requires.parted c.rest_after.ensures.rest until in
+    fault-written _ _ _ _ c.in-Some.fault c.in_ok-text.text.items c.deref.result.now c.in_ok-text.ensures c.deref.ensures.value stops c.in_ok-write_all.ensures.whole

@@ -1,9 +1,10 @@
-use Rattle.std.proofs.Common.{◌≡◌, ◌<◌, ℕ, List, ◌∷◌, length, sym, ◌∙◌, ap, subst, arith, ◌==◌}
+use Rattle.std.proofs.Common.{◌≡◌, ◌<◌, ℕ, List, ◌∷◌, length, refl, sym, ◌∙◌, ap, subst, arith, ◌==◌}
 use Rattle.std.specs.List.{after_first}
 use Rattle.nc_replay.specs.Script.{lines_of}
 use Rattle.nc_replay.specs.Input.{Adds, AddsPrefix}
-use Rattle.nc_replay.specs.Run.{SaysNew}
-use Rattle.nc_replay.proofs.Loop.{made-fits, made-next, made-whole, made-fault, made-some, made-cut, always-err, finds-none, finds-some, text-made, made-begins, made-as}
+use Rattle.nc_replay.specs.Run.{new_line}
+use Rattle.nc_replay.proofs.Said.{breaks-rule}
+use Rattle.nc_replay.proofs.Loop.{made-fits, made-next, made-whole, made-fault, made-some, made-cut, always-err, text-made, made-begins, made-as}
 use Rattle.nc_replay.proofs.replay.replay_lines.Goals as goal
 
 pub loop-rest-init : goal.loop-rest-init
@@ -13,15 +14,18 @@ loop-rest-init g c = record {
   refusals = omega arith;
 }
 
-pub returns-in_err-line-clause-some : goal.returns-in_err-line-clause-some
-returns-in_err-line-clause-some g c = always-err _ _ (made-some _ _ _ _ _ _ _ _ c.loop-rest.invariant.made)
+pub returns-in-Err-NoMemory-clause-some : goal.returns-in-Err-NoMemory-clause-some
+returns-in-Err-NoMemory-clause-some g c = made-some _ _ _ _ _ _ _ _ c.loop-rest.invariant.made
 
-pub returns-in_default-clause-until : goal.returns-in_default-clause-until
-returns-in_default-clause-until g c =
+pub returns-in-Err-Rule-clause-until : goal.returns-in-Err-Rule-clause-until
+returns-in-Err-Rule-clause-until g c =
     let some : 0 < length c.loop-rest.rest.now = omega arith in
     let text = c.first_line.result.now in
-    let none = finds-none (SaysNew c.deref.result.now text) c.in_ok-line.field-0 c.in_ok-line.ensures c.in_default.is in
-    made-fault _ _ _ _ _ _ _ _ text (after_first (λ b. b == 10) c.loop-rest.rest.now) (c.first_line.ensures.lines some) (λ line says. none line (subst (λ (used : List ℕ). SaysNew used text line) (sym c.deref.ensures.value) says)) c.loop-rest.invariant.made
+    let rule = c.in-Err-Rule.rule in
+    let at = c.in-Err-Rule.at in
+    let breaks = breaks-rule (new_line c.deref.result.now text) c.in-Err-Rule.field-0 rule at c.in-Err-Rule.field-0-is c.in-Err-Rule.ensures in
+    let broken = subst (λ (used : List ℕ). (new_line used text).Breaks rule at) c.deref.ensures.value breaks in
+    rw (c.in-Err-Rule.rule-is, c.in-Err-Rule.at-is) (made-fault _ _ _ _ _ _ _ _ text (after_first (λ b. b == 10) c.loop-rest.rest.now) (record { line = c.loop-rest.number; rule = rule; at = at }) (c.first_line.ensures.lines some) refl broken c.loop-rest.invariant.made)
 
 pub returns-in_err-events-clause-some : goal.returns-in_err-events-clause-some
 returns-in_err-events-clause-some g c = always-err _ _ (made-some _ _ _ _ _ _ _ _ c.loop-rest.invariant.made)
@@ -33,8 +37,8 @@ pub returns-in_err-write_all-clause-some : goal.returns-in_err-write_all-clause-
 returns-in_err-write_all-clause-some g c =
     let some : 0 < length c.loop-rest.rest.now = omega arith in
     let text = c.first_line.result.now in
-    let line = c.in-Some.line in
-    let says = subst (λ (used : List ℕ). SaysNew used text line) c.deref.ensures.value (finds-some (SaysNew c.deref.result.now text) c.in_ok-line.field-0 line c.in_ok-line.ensures c.in-Some.is) in
+    let line = c.in-Ok.line in
+    let says = subst (λ (used : List ℕ). (new_line used text).Says line) c.deref.ensures.value c.in-Ok.ensures in
     let is = text-made c.loop-rest.engine line c.in_ok-events.events.events c.in_ok-lines.lines.items c.deref-in-loop-rest.result.now c.in_ok-events.ensures.events c.in_ok-lines.ensures c.deref-in-loop-rest.ensures.value in
     let written = subst (λ (text : List ℕ). AddsPrefix text (g.K.Sink.taken c.loop-rest.out) (g.K.Sink.taken c.write_all.new.out)) is c.in_err-write_all.ensures.prefix in
     always-err _ _ (made-cut _ _ _ _ _ _ _ _ _ text (after_first (λ b. b == 10) c.loop-rest.rest.now) line c.requires (c.first_line.ensures.lines some) says written c.loop-rest.invariant.made)
@@ -43,8 +47,8 @@ pub loop-rest-preserved : goal.loop-rest-preserved
 loop-rest-preserved g c =
     let some : 0 < length c.loop-rest.rest.now = omega arith in
     let text = c.first_line.result.now in
-    let line = c.in-Some.line in
-    let says = subst (λ (used : List ℕ). SaysNew used text line) c.deref.ensures.value (finds-some (SaysNew c.deref.result.now text) c.in_ok-line.field-0 line c.in_ok-line.ensures c.in-Some.is) in
+    let line = c.in-Ok.line in
+    let says = subst (λ (used : List ℕ). (new_line used text).Says line) c.deref.ensures.value c.in-Ok.ensures in
     let is = text-made c.loop-rest.engine line c.in_ok-events.events.events c.in_ok-lines.lines.items c.deref-in-loop-rest.result.now c.in_ok-events.ensures.events c.in_ok-lines.ensures c.deref-in-loop-rest.ensures.value in
     let written = subst (λ (text : List ℕ). Adds text (g.K.Sink.taken c.loop-rest.out) (g.K.Sink.taken c.write_all.new.out)) is c.in_ok-write_all.ensures.whole in
     let cut = c.first_line.ensures.lines some ∙ ap (λ (behind : List ℕ). text ∷ lines_of behind) (sym c.rest_after-rest.ensures.rest) in

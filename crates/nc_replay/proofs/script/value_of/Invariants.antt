@@ -1,6 +1,0 @@
-use Rattle.std.proofs.Common.{◌≡◌, ◌<◌, ◌^◌, take}
-use Rattle.nc_replay.specs.Script.{value_of}
-use Rattle.nc_replay.proofs.script.value_of.Given as goal
-
-abbrev pub invariant-loop-digit : goal.invariant-loop-digit
-invariant-loop-digit l = record { value : l.value ≡ value_of (take l.digit-index l.digits); small : l.value < 10 ^ l.digit-index }
