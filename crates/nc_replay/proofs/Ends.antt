@@ -1,16 +1,15 @@
 -- How the replay of a whole script ends.
-use Rattle.std.proofs.Common.{◌≡◌, inl, inr, ℕ, ◌<◌, ◌==◌, Bool, true, false, List, [], ◌∷◌, length, refl, sym, ◌∙◌, subst, ap, arith, Option, Some, None, Result, Ok, Err, true≢false}
+use Rattle.std.proofs.Common.{◌≡◌, inl, inr, ℕ, ◌==◌, Bool, true, false, List, [], ◌∷◌, refl, sym, ◌∙◌, subst, ap, Option, Some, None, Result, Ok, Err, true≢false}
 use Rattle.std.specs.Prelude.{IsTrue, ◌↔◌, IfOk, IfNone, IfSome}
-use Rattle.std.specs.List.{before_first, after_first}
+use Rattle.std.specs.List.{after_first}
 use Rattle.nc_journal.specs.Text.{text_of}
 use Rattle.nc_replay.specs.declared.fault.Fault.{Fault}
 use Rattle.nc_replay.specs.declared.fault.Misconfigured.{Misconfigured as ConfigFault}
 use Rattle.nc_replay.specs.Script.{lines_of, rule_line, HasRule, IsMisconfigured}
 use Rattle.nc_replay.specs.Input.{Adds, AddsPrefix}
 use Rattle.nc_replay.specs.Run.{MakesAll, MakesUntil, MakesSome}
-use Rattle.nc_replay.specs.Top.{fault_text, misconfigured_text, ReplaysText, RefusesText, StopsAt, MisconfiguredText, CutsOffText, CutsOffSome}
+use Rattle.nc_replay.specs.Top.{fault_text, misconfigured_text, ReplaysText, RefusesText, StopsAt, CutsOffText, CutsOffSome}
 use Rattle.nc_replay.proofs.Parted.{has-rule}
-use Rattle.nc_replay.proofs.Good.{good-start, good-lawful}
 use Rattle.nc_replay.proofs.Loop.{adds-nothing, adds-more, adds-prefix}
 
 pub not-by-test : {P : Type 0} (b : Bool) → IsTrue b ↔ P → b ≡ false → P → ⊥

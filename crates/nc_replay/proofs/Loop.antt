@@ -1,5 +1,5 @@
 -- What is known between two lines of a script while they are made.
-use Rattle.std.proofs.Common.{◌≡◌, ℕ, ◌+◌, ◌<◌, ◌≤◌, Bool, true, false, not, cond, ◌==◌, ◌||◌, List, [], ◌∷◌, ◌++◌, length, map, refl, sym, ◌∙◌, subst, ap, arith, Option, Some, None, Result, Ok, Err, append_assoc, length-append}
+use Rattle.std.proofs.Common.{◌≡◌, ℕ, ◌+◌, ◌<◌, ◌≤◌, Bool, true, false, cond, ◌==◌, ◌||◌, List, [], ◌∷◌, ◌++◌, length, map, refl, sym, ◌∙◌, subst, ap, arith, Option, Some, None, Result, Ok, Err, append_assoc, length-append}
 use Rattle.std.specs.Prelude.{OnErr}
 use Rattle.std.specs.List.{flat_map}
 use Rattle.std.proofs.lemmas.List.{append-nil}
@@ -22,11 +22,11 @@ use Rattle.nc_script.specs.declared.line.Line.{Line}
 use Rattle.nc_script.specs.declared.line.Line.TheVariants.{Blank, Clock, Reap, Post, Poll}
 use Rattle.nc_replay.specs.declared.fault.Fault.{Fault}
 use Rattle.nc_replay.specs.Script.{lines_of}
-use Rattle.nc_replay.specs.Told.{line_after, Tells, Leads, IsNew, sends, start_id}
+use Rattle.nc_replay.specs.Told.{line_after, Tells, Leads, sends, start_id}
 use Rattle.nc_replay.specs.Machine.{State, start, events_of, after, Fits, sends_waiting, entry_left, expired_of, staying_of, surplus_of, channel_left, first_id, channel_of, next_stamp, found_events, begins}
 use Rattle.nc_replay.specs.Input.{Adds, AddsPrefix}
-use Rattle.nc_replay.specs.Run.{is_among, takes_new, used_after, new_line, MakesAll, MakesUntil, MakesSome}
-use Rattle.nc_replay.proofs.Said.{NewAfter, new-after, breaks-after}
+use Rattle.nc_replay.specs.Run.{is_among, used_after, new_line, MakesAll, MakesUntil, MakesSome}
+use Rattle.nc_replay.proofs.Said.{new-after, breaks-after}
 use Rattle.nc_replay.proofs.Good.{good-lawful}
 use Rattle.nc_replay.proofs.Stand.{StandsFor, stands-start}
 use Rattle.nc_replay.proofs.Step.{HasCome, IsWithin, makes-line, come-start, come-fits}

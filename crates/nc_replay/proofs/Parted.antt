@@ -1,12 +1,10 @@
 -- Where the lines of a script begin.
-use Rattle.std.proofs.Common.{◌≡◌, ◌≢◌, ◌⊎◌, inl, inr, ℕ, ◌<◌, ◌==◌, Bool, true, false, List, [], ◌∷◌, ◌++◌, length, bytes_eq, refl, sym, ◌∙◌, subst, ap, arith, true≢false}
-use Rattle.std.specs.Prelude.{IsTrue, ◌↔◌}
+use Rattle.std.proofs.Common.{◌≡◌, ◌≢◌, ◌⊎◌, inl, inr, ℕ, ◌<◌, ◌==◌, Bool, true, false, List, [], ◌∷◌, ◌++◌, length, bytes_eq, refl, sym, ◌∙◌, subst, ap, arith}
 use Rattle.std.specs.List.{AllByRecursion, before_first, after_first}
-use Rattle.std.specs.Cmp.Lexicographic.{pointwise}
 use Rattle.std.specs.Bool.{Decides}
 use Rattle.std.proofs.lemmas.Slice.Eq.{bytes_eq-Decides}
 use Rattle.std.proofs.lemmas.Bool.Decides.{not_from_Decides}
-use Rattle.nc_replay.specs.Script.{lines_of, rule_line, HasRule, LacksRule, IsConfigured, IsMisconfigured}
+use Rattle.nc_replay.specs.Script.{lines_of, rule_line, HasRule, LacksRule, IsConfigured}
 use Rattle.nc_replay.proofs.Cuts.{first_and_rest}
 
 -- the lines of a list up to the first that is the line `---`, where there is one

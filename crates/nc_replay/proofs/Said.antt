@@ -1,5 +1,5 @@
 -- What a line says by the rules is what the engine takes, and a used number is one that there was.
-use Rattle.std.proofs.Common.{◌≡◌, ◌⊎◌, inl, inr, ℕ, ℤ, negsuc, ◌<◌, ◌≤◌, Bool, true, false, not, cond, ◌==◌, slice_index_or, List, [], ◌∷◌, length, map, refl, sym, ◌∙◌, ap, subst, arith, true≢false}
+use Rattle.std.proofs.Common.{◌≡◌, inl, inr, ℕ, ℤ, negsuc, ◌<◌, ◌≤◌, Bool, true, false, not, cond, ◌==◌, slice_index_or, List, [], ◌∷◌, length, map, refl, sym, ◌∙◌, ap, subst, arith, true≢false}
 use Rattle.std.specs.List.{slice_split, onto_first}
 use Rattle.nc_types.specs.Cursor.{CursorAt}
 use Rattle.nc_types.specs.declared.start.Start.{Start}
