@@ -24,7 +24,7 @@ IsChannelStatus status = (status ≡ 200) ⊎ (status ≡ 404)
 module _ {H : Type 0} where
   -- the grant that an alert carries, if it carries one
   abbrev pub grant_of : Alert H → Option (Grant H)
-  grant_of (alerts.LookAnswer no q floor found) = found
+  grant_of (alerts.LookAnswer number q floor found) = found
   grant_of (alerts.Notice c found) = Some found
   grant_of alert = None
 
@@ -33,8 +33,8 @@ module _ {H : Type 0} where
   abbrev pub IsAlertTo : ℕ → ℕ → Alert H → Type 0
   IsAlertTo workers to (alerts.Publish r c len timeout ct body) = (owner_of workers c ≡ to) × IsTimeout timeout × IsContentType ct
   IsAlertTo workers to (alerts.PubAnswer r status info full) = IsPublishStatus status
-  IsAlertTo workers to (alerts.Look no c after fence) = (owner_of workers c ≡ to) × IsTime fence
-  IsAlertTo workers to (alerts.Edge no k c fence) = (owner_of workers c ≡ to) × IsTime fence
+  IsAlertTo workers to (alerts.Look number c after fence) = (owner_of workers c ≡ to) × IsTime fence
+  IsAlertTo workers to (alerts.Edge number k c fence) = (owner_of workers c ≡ to) × IsTime fence
   IsAlertTo workers to (alerts.Join c k) = owner_of workers c ≡ to
   IsAlertTo workers to (alerts.Part c k) = owner_of workers c ≡ to
   IsAlertTo workers to (alerts.Delete r c) = owner_of workers c ≡ to

@@ -47,7 +47,10 @@ pub enum Alert<H> {
         found: Option<Grant<H>>,
     },
     /// A message was stored in a channel where the worker had looked in vain.
-    Notice { c: ChanName, found: Grant<H> },
+    Notice {
+        c: ChanName,
+        found: Grant<H>,
+    },
     /// Asks for the channel's last id. The owner's floor is at least `fence` then.
     Edge {
         no: u64,
@@ -63,11 +66,20 @@ pub enum Alert<H> {
         last: MsgId,
     },
     /// A subscriber becomes a member of the channel.
-    Join { c: ChanName, k: u64 },
+    Join {
+        c: ChanName,
+        k: u64,
+    },
     /// A subscriber is a member no longer.
-    Part { c: ChanName, k: u64 },
+    Part {
+        c: ChanName,
+        k: u64,
+    },
     /// Asks that the channel be removed.
-    Delete { r: u64, c: ChanName },
+    Delete {
+        r: u64,
+        c: ChanName,
+    },
     /// Whether there was such a channel, and what it had.
     DelAnswer {
         r: u64,
@@ -75,9 +87,15 @@ pub enum Alert<H> {
         info: Option<Info>,
     },
     /// The channel was removed, and these subscribers of the receiver were its members.
-    Gone { c: ChanName, subs: List<u64> },
+    Gone {
+        c: ChanName,
+        subs: List<u64>,
+    },
     /// Asks what the channel has.
-    Info { r: u64, c: ChanName },
+    Info {
+        r: u64,
+        c: ChanName,
+    },
     /// Whether there is such a channel, and what it has.
     InfoAnswer {
         r: u64,

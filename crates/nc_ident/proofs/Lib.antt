@@ -2,3 +2,4 @@ pub mod Tag
 pub mod Tags
 pub mod Pieces
 pub mod WrittenSpells
+pub mod Dates

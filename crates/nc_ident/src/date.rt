@@ -6,6 +6,7 @@ ghost use Rattle.nc_ident.specs.Date.{IsFixedDate, SpellsDate};
 use httpdate::HttpDate;
 
 /// The date of a second since 1970, in the fixed form of RFC 9110, as `Sun, 06 Nov 1994 08:49:37 GMT`.
+#[tactic(auto, using(crate::proofs::Dates::fixed_date))]
 pub fn spell_date(time: u64) -> [u8; 29]
     requires { IsTime time }
     ensures { IsFixedDate result time }

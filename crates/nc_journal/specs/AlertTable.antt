@@ -6,6 +6,7 @@ use Rattle.nc_journal.specs.Shape.{number, text, id, subs, optional_number, opti
 use Rattle.nc_journal.specs.declared.alert.AlertLine.{AlertLine}
 use Rattle.nc_journal.specs.declared.alert.AlertLine.TheVariants as alerts
 
+-- `publish` and its fields
 abbrev pub publish_row : Row kit AlertLine
 publish_row = record {
   word = codes "publish";
@@ -13,6 +14,7 @@ publish_row = record {
   make = λ x. alerts.Publish x.0 x.1.0 x.1.1.0 x.1.1.1.0 x.1.1.1.1.0 x.1.1.1.1.1.0;
 }
 
+-- `pubanswer` and its fields
 abbrev pub publish_answer_row : Row kit AlertLine
 publish_answer_row = record {
   word = codes "pubanswer";
@@ -20,6 +22,7 @@ publish_answer_row = record {
   make = λ x. alerts.PubAnswer x.0 x.1.0 x.1.1.0 x.1.1.1.0;
 }
 
+-- `look` and its fields
 abbrev pub look_row : Row kit AlertLine
 look_row = record {
   word = codes "look";
@@ -27,6 +30,7 @@ look_row = record {
   make = λ x. alerts.Look x.0 x.1.0 x.1.1.0 x.1.1.1.0;
 }
 
+-- `lookanswer` and its fields
 abbrev pub look_answer_row : Row kit AlertLine
 look_answer_row = record {
   word = codes "lookanswer";
@@ -34,6 +38,7 @@ look_answer_row = record {
   make = λ x. alerts.LookAnswer x.0 x.1.0 x.1.1.0 x.1.1.1.0 x.1.1.1.1.0 x.1.1.1.1.1.0;
 }
 
+-- `notice` and its fields
 abbrev pub notice_row : Row kit AlertLine
 notice_row = record {
   word = codes "notice";
@@ -41,6 +46,7 @@ notice_row = record {
   make = λ x. alerts.Notice x.0 x.1.0 x.1.1.0 x.1.1.1.0;
 }
 
+-- `edge` and its fields
 abbrev pub edge_row : Row kit AlertLine
 edge_row = record {
   word = codes "edge";
@@ -48,6 +54,7 @@ edge_row = record {
   make = λ x. alerts.Edge x.0 x.1.0 x.1.1.0 x.1.1.1.0;
 }
 
+-- `edgeanswer` and its fields
 abbrev pub edge_answer_row : Row kit AlertLine
 edge_answer_row = record {
   word = codes "edgeanswer";
@@ -55,6 +62,7 @@ edge_answer_row = record {
   make = λ x. alerts.EdgeAnswer x.0 x.1.0 x.1.1.0 x.1.1.1.0;
 }
 
+-- `join` and its fields
 abbrev pub join_row : Row kit AlertLine
 join_row = record {
   word = codes "join";
@@ -62,6 +70,7 @@ join_row = record {
   make = λ x. alerts.Join x.0 x.1.0;
 }
 
+-- `part` and its fields
 abbrev pub part_row : Row kit AlertLine
 part_row = record {
   word = codes "part";
@@ -69,6 +78,7 @@ part_row = record {
   make = λ x. alerts.Part x.0 x.1.0;
 }
 
+-- `delete` and its fields
 abbrev pub delete_row : Row kit AlertLine
 delete_row = record {
   word = codes "delete";
@@ -76,6 +86,7 @@ delete_row = record {
   make = λ x. alerts.Delete x.0 x.1.0;
 }
 
+-- `delanswer` and its fields
 abbrev pub delete_answer_row : Row kit AlertLine
 delete_answer_row = record {
   word = codes "delanswer";
@@ -83,6 +94,7 @@ delete_answer_row = record {
   make = λ x. alerts.DelAnswer x.0 x.1.0 x.1.1.0;
 }
 
+-- `gone` and its fields
 abbrev pub gone_row : Row kit AlertLine
 gone_row = record {
   word = codes "gone";
@@ -90,6 +102,7 @@ gone_row = record {
   make = λ x. alerts.Gone x.0 x.1.0;
 }
 
+-- `info` and its fields
 abbrev pub info_row : Row kit AlertLine
 info_row = record {
   word = codes "info";
@@ -97,6 +110,7 @@ info_row = record {
   make = λ x. alerts.Info x.0 x.1.0;
 }
 
+-- `infoanswer` and its fields
 abbrev pub info_answer_row : Row kit AlertLine
 info_answer_row = record {
   word = codes "infoanswer";
@@ -104,8 +118,10 @@ info_answer_row = record {
   make = λ x. alerts.InfoAnswer x.0 x.1.0 x.1.1.0;
 }
 
+-- the alerts behind the first
 abbrev pub alert_rows : List (Row kit AlertLine)
 alert_rows = publish_answer_row ∷ look_row ∷ look_answer_row ∷ notice_row ∷ edge_row ∷ edge_answer_row ∷ join_row ∷ part_row ∷ delete_row ∷ delete_answer_row ∷ gone_row ∷ info_row ∷ info_answer_row ∷ []
 
+-- reads an alert: its word, and its fields
 abbrev pub alert_at : List ℕ → Read AlertLine
 alert_at t = line_at kit publish_row alert_rows t

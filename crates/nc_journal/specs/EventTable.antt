@@ -33,6 +33,7 @@ pub data Part : Type 0 where
   alert : Part
   place : Part
 
+-- its values
 abbrev pub PartValue : Part → Type 0
 PartValue (plain s) = ValueOf s
 PartValue act = Act
@@ -45,6 +46,7 @@ PartValue kind = AlertKind
 PartValue alert = AlertLine
 PartValue place = Sending
 
+-- those that an event can keep
 abbrev pub PartFits : (p : Part) → PartValue p → Type 0
 PartFits (plain s) x = FitsOf s x
 PartFits act x = Unit {0}
@@ -57,6 +59,7 @@ PartFits kind x = Unit {0}
 PartFits alert x = AlertFits x
 PartFits place x = IsSending x
 
+-- their texts
 abbrev pub part_text : (p : Part) → PartValue p → List ℕ
 part_text (plain s) x = text_of s x
 part_text act x = act_word x
@@ -69,6 +72,7 @@ part_text kind x = kind_word x
 part_text alert x = alert_text x
 part_text place x = sending_text x
 
+-- reading such a text
 abbrev pub part_at : (p : Part) → List ℕ → Read (PartValue p)
 part_at (plain s) t = read_of s t
 part_at act t = act_at t
@@ -81,6 +85,7 @@ part_at kind t = kind_at t
 part_at alert t = alert_at t
 part_at place t = sending_at t
 
+-- the parts with their texts and readers
 abbrev pub parts : Kit
 parts = record { Shape = Part; Value = PartValue; Fits = PartFits; text = part_text; read = part_at }
 
@@ -92,6 +97,7 @@ field name shape = record { name = name; shape = plain shape }
 abbrev pub part : List ℕ → Part → Field parts
 part name shape = record { name = name; shape = shape }
 
+-- `clock` and its fields
 abbrev pub clock_row : Row parts Event
 clock_row = record {
   word = codes "clock";
@@ -99,6 +105,7 @@ clock_row = record {
   make = λ x. Clock x.0 x.1.0;
 }
 
+-- `opened` and its fields
 abbrev pub opened_row : Row parts Event
 opened_row = record {
   word = codes "opened";
@@ -106,6 +113,7 @@ opened_row = record {
   make = λ x. Opened x.0 x.1.0;
 }
 
+-- `got` and its fields
 abbrev pub got_row : Row parts Event
 got_row = record {
   word = codes "got";
@@ -113,6 +121,7 @@ got_row = record {
   make = λ x. Got x.0 x.1.0 x.1.1.0;
 }
 
+-- `asked` and its fields
 abbrev pub asked_row : Row parts Event
 asked_row = record {
   word = codes "asked";
@@ -120,6 +129,7 @@ asked_row = record {
   make = λ x. Asked x.0 x.1.0 x.1.1.0 x.1.1.1.0 x.1.1.1.1.0 x.1.1.1.1.1.0 x.1.1.1.1.1.1.0;
 }
 
+-- `answered` and its fields
 abbrev pub answered_row : Row parts Event
 answered_row = record {
   word = codes "answered";
@@ -127,6 +137,7 @@ answered_row = record {
   make = λ x. Answered x.0 x.1.0 x.1.1.0 x.1.1.1.0 x.1.1.1.1.0 x.1.1.1.1.1.0 x.1.1.1.1.1.1.0;
 }
 
+-- `subscribed` and its fields
 abbrev pub subscribed_row : Row parts Event
 subscribed_row = record {
   word = codes "subscribed";
@@ -134,6 +145,7 @@ subscribed_row = record {
   make = λ x. Subscribed x.0 x.1.0 x.1.1.0 x.1.1.1.0 x.1.1.1.1.0 x.1.1.1.1.1.0 x.1.1.1.1.1.1.0 x.1.1.1.1.1.1.1.0;
 }
 
+-- `started` and its fields
 abbrev pub started_row : Row parts Event
 started_row = record {
   word = codes "started";
@@ -141,6 +153,7 @@ started_row = record {
   make = λ x. Started x.0 x.1.0 x.1.1.0;
 }
 
+-- `joined` and its fields
 abbrev pub joined_row : Row parts Event
 joined_row = record {
   word = codes "joined";
@@ -148,6 +161,7 @@ joined_row = record {
   make = λ x. Joined x.0 x.1.0 x.1.1.0 x.1.1.1.0;
 }
 
+-- `parted` and its fields
 abbrev pub parted_row : Row parts Event
 parted_row = record {
   word = codes "parted";
@@ -155,6 +169,7 @@ parted_row = record {
   make = λ x. Parted x.0 x.1.0 x.1.1.0 x.1.1.1.0;
 }
 
+-- `raised` and its fields
 abbrev pub raised_row : Row parts Event
 raised_row = record {
   word = codes "raised";
@@ -162,6 +177,7 @@ raised_row = record {
   make = λ x. Raised x.0 x.1.0;
 }
 
+-- `stored` and its fields
 abbrev pub stored_row : Row parts Event
 stored_row = record {
   word = codes "stored";
@@ -169,6 +185,7 @@ stored_row = record {
   make = λ x. Stored x.0 x.1.0 x.1.1.0 x.1.1.1.0 x.1.1.1.1.0 x.1.1.1.1.1.0 x.1.1.1.1.1.1.0 x.1.1.1.1.1.1.1.0 x.1.1.1.1.1.1.1.1.0 x.1.1.1.1.1.1.1.1.1.0 x.1.1.1.1.1.1.1.1.1.1.0 x.1.1.1.1.1.1.1.1.1.1.1.0;
 }
 
+-- `left` and its fields
 abbrev pub left_row : Row parts Event
 left_row = record {
   word = codes "left";
@@ -176,6 +193,7 @@ left_row = record {
   make = λ x. Left x.0 x.1.0 x.1.1.0 x.1.1.1.0 x.1.1.1.1.0;
 }
 
+-- `looked` and its fields
 abbrev pub looked_row : Row parts Event
 looked_row = record {
   word = codes "looked";
@@ -183,6 +201,7 @@ looked_row = record {
   make = λ x. Looked x.0 x.1.0 x.1.1.0 x.1.1.1.0 x.1.1.1.1.0 x.1.1.1.1.1.0 x.1.1.1.1.1.1.0 x.1.1.1.1.1.1.1.0;
 }
 
+-- `edged` and its fields
 abbrev pub edged_row : Row parts Event
 edged_row = record {
   word = codes "edged";
@@ -190,6 +209,7 @@ edged_row = record {
   make = λ x. Edged x.0 x.1.0 x.1.1.0 x.1.1.1.0 x.1.1.1.1.0 x.1.1.1.1.1.0 x.1.1.1.1.1.1.0 x.1.1.1.1.1.1.1.0;
 }
 
+-- `granted` and its fields
 abbrev pub granted_row : Row parts Event
 granted_row = record {
   word = codes "granted";
@@ -197,6 +217,7 @@ granted_row = record {
   make = λ x. Granted x.0 x.1.0 x.1.1.0 x.1.1.1.0;
 }
 
+-- `released` and its fields
 abbrev pub released_row : Row parts Event
 released_row = record {
   word = codes "released";
@@ -204,6 +225,7 @@ released_row = record {
   make = λ x. Released x.0 x.1.0 x.1.1.0 x.1.1.1.0;
 }
 
+-- `freed` and its fields
 abbrev pub freed_row : Row parts Event
 freed_row = record {
   word = codes "freed";
@@ -211,6 +233,7 @@ freed_row = record {
   make = λ x. Freed x.0 x.1.0;
 }
 
+-- `removed` and its fields
 abbrev pub removed_row : Row parts Event
 removed_row = record {
   word = codes "removed";
@@ -218,6 +241,7 @@ removed_row = record {
   make = λ x. Removed x.0 x.1.0 x.1.1.0 x.1.1.1.0;
 }
 
+-- `sent` and its fields
 abbrev pub sent_row : Row parts Event
 sent_row = record {
   word = codes "sent";
@@ -225,6 +249,7 @@ sent_row = record {
   make = λ x. Sent x.0 x.1.0 x.1.1.0.0 x.1.1.0.1.0 x.1.1.0.1.1.0 x.1.1.0.1.1.1 x.1.1.1.0;
 }
 
+-- `ended` and its fields
 abbrev pub ended_row : Row parts Event
 ended_row = record {
   word = codes "ended";
@@ -232,6 +257,7 @@ ended_row = record {
   make = λ x. Ended x.0 x.1.0 x.1.1.0;
 }
 
+-- `replied` and its fields
 abbrev pub replied_row : Row parts Event
 replied_row = record {
   word = codes "replied";
@@ -239,6 +265,7 @@ replied_row = record {
   make = λ x. Replied x.0 x.1.0 x.1.1.0;
 }
 
+-- `wrote` and its fields
 abbrev pub wrote_row : Row parts Event
 wrote_row = record {
   word = codes "wrote";
@@ -246,6 +273,7 @@ wrote_row = record {
   make = λ x. Wrote x.0 x.1.0 x.1.1.0;
 }
 
+-- `shut` and its fields
 abbrev pub shut_row : Row parts Event
 shut_row = record {
   word = codes "shut";
@@ -253,6 +281,7 @@ shut_row = record {
   make = λ x. Shut x.0 x.1.0 x.1.1.0;
 }
 
+-- `made` and its fields
 abbrev pub made_row : Row parts Event
 made_row = record {
   word = codes "made";
@@ -260,6 +289,7 @@ made_row = record {
   make = λ x. Made x.0 x.1.0 x.1.1.0 x.1.1.1.0;
 }
 
+-- `took` and its fields
 abbrev pub took_row : Row parts Event
 took_row = record {
   word = codes "took";
@@ -267,6 +297,7 @@ took_row = record {
   make = λ x. Took x.0 x.1.0 x.1.1.0 x.1.1.1.0;
 }
 
+-- `pending` and its fields
 abbrev pub pending_row : Row parts Event
 pending_row = record {
   word = codes "pending";
@@ -274,6 +305,7 @@ pending_row = record {
   make = λ x. Pending x.0;
 }
 
+-- `quiet` and its fields
 abbrev pub quiet_row : Row parts Event
 quiet_row = record {
   word = codes "quiet";
@@ -281,8 +313,10 @@ quiet_row = record {
   make = λ x. Quiet;
 }
 
+-- the events behind the first
 abbrev pub event_rows : List (Row parts Event)
 event_rows = opened_row ∷ got_row ∷ asked_row ∷ answered_row ∷ subscribed_row ∷ started_row ∷ joined_row ∷ parted_row ∷ raised_row ∷ stored_row ∷ left_row ∷ looked_row ∷ edged_row ∷ granted_row ∷ released_row ∷ freed_row ∷ removed_row ∷ sent_row ∷ ended_row ∷ replied_row ∷ wrote_row ∷ shut_row ∷ made_row ∷ took_row ∷ pending_row ∷ quiet_row ∷ []
 
+-- reads an event: its word, and its fields
 abbrev pub event_at : List ℕ → Read Event
 event_at t = line_at parts clock_row event_rows t

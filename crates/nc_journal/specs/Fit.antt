@@ -19,18 +19,22 @@ use Rattle.nc_journal.specs.declared.alert.AlertLine.TheVariants as alerts
 abbrev pub IsU64 : ℕ → Type 0
 IsU64 n = n ≤ 18446744073709551615
 
+-- each is a number of 64 bits
 abbrev pub AreNumbers : List ℕ → Type 0
 AreNumbers numbers = AllByRecursion IsU64 numbers
 
+-- a time and a tag of their types
 pub record IsId (id : Id) : Type 0 where
   pub time : IsTime id.time
   pub tag : IsTag id.tag
 
+-- a time, and one tag or more
 pub record IsCursor (cursor : CursorAt) : Type 0 where
   pub time : IsTime cursor.time
   pub some : 0 < length cursor.tags
   pub tags : AreTags cursor.tags
 
+-- a given cursor is one
 abbrev pub IsStart : Start → Type 0
 IsStart Oldest = Unit {0}
 IsStart Newest = Unit {0}
@@ -42,15 +46,18 @@ pub record IsList (names : List (List ℕ)) : Type 0 where
   pub distinct : AreDistinct names
   pub bytes : AllByRecursion AreBytes names
 
+-- a number of 32 bits, a number of 64 bits, and an id, if any
 pub record IsInfo (info : InfoOf) : Type 0 where
   pub messages : info.messages ≤ 4294967295
   pub members : IsU64 info.members
   pub last : OrNone IsId info.last
 
+-- two numbers of 64 bits
 pub record IsFull (full : FullLine) : Type 0 where
   pub buffered : IsU64 full.buffered
   pub held : IsU64 full.held
 
+-- each field of an alert is one of its type
 abbrev pub AlertFits : AlertLine → Type 0
 AlertFits (alerts.Publish r c len timeout ct body) = IsU64 r × AreBytes c × IsU64 len × IsU64 timeout × OrNone AreBytes ct × AreBytes body
 AlertFits (alerts.PubAnswer r status info full) = IsU64 r × IsU64 status × OrNone IsInfo info × OrNone IsFull full

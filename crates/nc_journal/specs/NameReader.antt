@@ -15,6 +15,7 @@ abbrev pub if_new : List (List ℕ) → Read (List ℕ) → Read (List ℕ)
 if_new names (Found name r) = if is_among name names then Stuck (34 ∷ r) else Found name r
 if_new names (Stuck r) = Stuck r
 
+-- reads a name that is none of those before
 abbrev pub new_name_at : List (List ℕ) → List ℕ → Read (List ℕ)
 new_name_at names t = if_new names (quoted_at t)
 
@@ -24,5 +25,6 @@ more_names_at zero names t = Found [] t
 more_names_at (suc n) names [] = Found [] []
 more_names_at (suc n) names (c ∷ r) = if c == 44 then add_first (go_on (new_name_at names r) (λ name rest. with_first name (more_names_at n (names ++ name ∷ []) rest))) else Found [] (c ∷ r)
 
+-- reads a list of channels
 abbrev pub list_at : List ℕ → Read (List (List ℕ))
 list_at t = add_first (go_on (quoted_at t) (λ name rest. with_first name (more_names_at (length rest) (name ∷ []) rest)))

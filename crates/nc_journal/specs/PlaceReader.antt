@@ -24,15 +24,19 @@ pub record IsSending (x : Sending) : Type 0 where
   pub cursor : IsCursor x.1.1.1
   pub below : x.0 < length x.1.1.1.tags
 
+-- their text
 abbrev pub sending_text : Sending → List ℕ
 sending_text x = decimal x.0 ++ codes " c=" ++ quoted x.1.0 ++ codes " id=" ++ id_text x.1.1.0 ++ codes " cur=" ++ sent_text x.0 x.1.1.1
 
+-- a first tag and more as one list
 abbrev pub first_and_more : ℤ × List ℤ → List ℤ
 first_and_more x = x.0 ∷ x.1
 
+-- one tag as a list
 abbrev pub only : ℤ → List ℤ
 only g = g ∷ []
 
+-- reads tags each behind a comma
 abbrev pub more_tags_at : List ℕ → Read (List ℤ)
 more_tags_at t = more_at (length t) tag_at t
 
@@ -50,8 +54,10 @@ abbrev pub sent_tags_at : ℕ → List ℕ → Read (List ℤ)
 sent_tags_at zero t = if_first 91 (λ u. map_read first_and_more (field_at (91 ∷ []) (two_at (93 ∷ 44 ∷ []) tag_at (joined_at tag_at)) u)) (λ u. map_read only (tag_at u)) t
 sent_tags_at (suc i) t = bracketed_at (suc i) t
 
+-- reads the cursor that a message of place i moved
 abbrev pub sent_cursor_at : ℕ → List ℕ → Read CursorAt
 sent_cursor_at i t = map_read cursor_of (two_at (58 ∷ []) time_at (sent_tags_at i) t)
 
+-- reads a place, a channel, an id and a cursor
 abbrev pub sending_at : List ℕ → Read Sending
 sending_at t = go_on (u64_at t) (λ i rest. with_first i (field_at (codes " c=") (two_at (codes " id=") quoted_at (two_at (codes " cur=") id_at (sent_cursor_at i))) rest))

@@ -16,6 +16,7 @@ use Rattle.nc_journal.specs.Fit.{IsU64, AreNumbers, IsId, IsCursor, IsStart, IsL
 use Rattle.nc_journal.specs.ValueReader.{u64_at, truth_at, id_at, cursor_at, start_at, info_at, full_at, numbers_at, subs_at}
 use Rattle.nc_journal.specs.NameReader.{list_at}
 
+-- what a field can have
 pub data Shape : Type 0 where
   number : Shape
   truth : Shape
@@ -105,6 +106,7 @@ read_of optional_info t = option_at info_at t
 read_of optional_full t = option_at full_at t
 read_of optional_list t = option_at list_at t
 
+-- the shapes with their texts and readers
 abbrev pub kit : Kit
 kit = record { Shape = Shape; Value = ValueOf; Fits = FitsOf; text = text_of; read = read_of }
 

@@ -1,5 +1,5 @@
 -- Slots and their numbers of holds.
-use Rattle.std.proofs.Common.{◌≡◌, ◌<◌, ◌≤◌, ◌+◌, ℕ, zero, suc, Bool, true, false, List, [], ◌∷◌, refl, sym, ap, ◌∙◌, arith, length, set, replicate}
+use Rattle.std.proofs.Common.{◌≡◌, ◌<◌, ◌≤◌, ◌+◌, ℕ, zero, suc, Bool, true, false, List, [], ◌∷◌, refl, ap, arith, length, set, replicate}
 use Rattle.std.specs.Prelude.{slice_index}
 use Rattle.nc_slots.specs.Slot.{slot_at, is_unused, most_holds, CanGrant, filled, granted, retired, polled}
 use Rattle.nc_slots.specs.Plain.{AreHeld}

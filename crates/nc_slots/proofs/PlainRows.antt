@@ -1,15 +1,15 @@
 -- One owner's row of plain slots, as contracts see it.
-use Rattle.std.proofs.Common.{◌≡◌, ◌<◌, ◌≤◌, ◌+◌, ◌-◌, ℕ, zero, suc, Bool, true, false, cond, eqb, ltb, List, [], ◌∷◌, refl, sym, ap, ◌∙◌, arith, subst, length, map, set, replicate, Global}
-use Rattle.std.specs.Prelude.{Option, Some, None, is_none, position, slice_index, get_or}
+use Rattle.std.proofs.Common.{◌≡◌, ◌<◌, ◌≤◌, ◌+◌, ◌-◌, ℕ, zero, suc, Bool, true, false, cond, eqb, ltb, List, ◌∷◌, refl, sym, ap, ◌∙◌, arith, subst, length, set, replicate, Global}
+use Rattle.std.specs.Prelude.{Option, Some, slice_index, get_or}
 use Rattle.std.specs.declared.rc.Rc.{Rc}
 use Rattle.std.proofs.lemmas.List.{get_or_read}
 use Rattle.std.proofs.lemmas.List.Quantifiers.{position-Some}
 use Rattle.nc_types.specs.Message.{Message}
-use Rattle.nc_slots.specs.Slot.{map_message, slot_at, is_unused, is_buffered, lowest_unused, most_holds, filled, granted, retired, polled, CanGrant}
+use Rattle.nc_slots.specs.Slot.{slot_at, is_unused, is_buffered, lowest_unused, most_holds, filled, granted, retired, polled, CanGrant}
 use Rattle.nc_slots.specs.Slots.{answer, is_held, PollFits}
 use Rattle.nc_slots.specs.Plain.{RowAt, new_row, told, AreHeld}
 use Rattle.nc_slots.specs.declared.slot.Slot.{Slot}
-use Rattle.nc_slots.specs.declared.slot.Slot.TheVariants.{Unused, Buffered, Retired}
+use Rattle.nc_slots.specs.declared.slot.Slot.TheVariants.{Unused}
 use Rattle.nc_slots.specs.declared.slots.Polled.{Polled}
 use Rattle.nc_slots.specs.declared.slots.Polled.TheVariants.{Freed, Clear, Held}
 use Rattle.nc_slots.proofs.Held.{held_at, held_there, held_few, held_put, held_granted, held_retired, held_polled, held_less, held_new}

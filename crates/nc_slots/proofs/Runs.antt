@@ -1,6 +1,6 @@
 -- Rows and their runs.
-use Rattle.std.proofs.Common.{◌≡◌, ◌<◌, ◌≤◌, ◌*◌, ◌/◌, ◌%◌, ◌^◌, min, ℕ, zero, suc, ◌+◌, ◌-◌, Bool, true, false, List, [], ◌∷◌, refl, sym, ap, ◌∙◌, arith, cond, ltb, ◌||◌, length, take, drop, set, get_or, replicate, subst}
-use Rattle.std.specs.Prelude.{Option, Some, None, option_map, position}
+use Rattle.std.proofs.Common.{◌≡◌, ◌<◌, ◌≤◌, ◌*◌, ◌/◌, ◌%◌, ◌^◌, min, ℕ, zero, suc, ◌+◌, ◌-◌, Bool, true, false, List, [], ◌∷◌, refl, sym, ap, ◌∙◌, arith, ltb, ◌||◌, length, take, drop, set, get_or, replicate, subst}
+use Rattle.std.specs.Prelude.{Some, None, position}
 use Rattle.std.specs.List.{list_any}
 use Rattle.std.proofs.lemmas.List.{length-drop, length-set, get_or-drop, drop-drop, length-replicate, take-set-le, drop-set-lt, drop-set-add, drop-replicate}
 use Rattle.std.proofs.lemmas.Grind.{div_ceil_times}

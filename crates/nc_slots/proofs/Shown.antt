@@ -1,7 +1,7 @@
 -- Slots by other messages take the same steps.
 use Rattle.std.proofs.Common.{◌≡◌, ℕ, zero, suc, Bool, true, false, List, [], ◌∷◌, refl, sym, ap, ◌∙◌, map, set}
-use Rattle.std.specs.Prelude.{Option, option_map, position}
-use Rattle.nc_slots.specs.Slot.{map_message, slot_at, is_unused, is_buffered, lowest_unused, message_of, most_holds, CanGrant, filled, granted, retired, cleared, polled}
+use Rattle.std.specs.Prelude.{option_map}
+use Rattle.nc_slots.specs.Slot.{map_message, slot_at, is_unused, is_buffered, lowest_unused, message_of, most_holds, CanGrant, filled, granted, retired, polled}
 use Rattle.nc_slots.specs.declared.slot.Slot.{Slot}
 use Rattle.nc_slots.specs.declared.slot.Slot.TheVariants.{Unused, Buffered, Retired}
 use Rattle.nc_slots.proofs.First.{first, position-first}

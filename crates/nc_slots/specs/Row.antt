@@ -1,5 +1,5 @@
 -- What is kept beside a row of slots.
-use Rattle.std.specs.Prelude.{◌≡◌, ℕ, ◌<◌, ◌^◌, Bool, List, [], ◌∷◌, drop, length, take}
+use Rattle.std.specs.Prelude.{◌≡◌, ◌<◌, ◌^◌, Bool, List, [], ◌∷◌, drop, length, take}
 use Rattle.std.specs.List.{list_any}
 use Rattle.nc_slots.specs.Slot.{is_unused}
 use Rattle.nc_slots.specs.declared.slot.Slot.{Slot}

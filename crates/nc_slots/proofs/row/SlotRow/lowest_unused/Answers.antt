@@ -1,8 +1,8 @@
-use Rattle.std.proofs.Common.{◌≡◌, ◌<◌, ◌+◌, ◌*◌, ℕ, ◌∙◌, ap, sym, arith, length, take, drop, List}
-use Rattle.std.specs.Prelude.{Some, position}
+use Rattle.std.proofs.Common.{◌+◌, ◌*◌, ◌∙◌, ap, sym, arith, length, take, drop, List}
+use Rattle.std.specs.Prelude.{position}
 use Rattle.nc_slots.specs.Slot.{is_unused}
 use Rattle.nc_slots.specs.declared.slot.Slot.{Slot}
-use Rattle.nc_slots.proofs.Runs.{told, run_at, begins_within, no_lowest, lowest_found, never_none, lowest_within}
+use Rattle.nc_slots.proofs.Runs.{told, begins_within, no_lowest, lowest_found, never_none, lowest_within}
 use Rattle.nc_slots.proofs.row.SlotRow.lowest_unused.Goals as goal
 
 pub returns-in_err-first : goal.returns-in_err-first

@@ -1,4 +1,3 @@
-use Rattle.std.proofs.Common.{arith}
 use Rattle.nc_slots.proofs.Runs.{new_row}
 use Rattle.nc_slots.proofs.row.SlotRow.new.Goals as goal
 

@@ -1,4 +1,4 @@
-use Rattle.std.proofs.Common.{ap, sym, ◌∙◌, arith, length, false}
+use Rattle.std.proofs.Common.{ap, arith, length, false}
 use Rattle.nc_slots.specs.declared.slot.Slot.TheVariants.{Buffered}
 use Rattle.nc_slots.proofs.Runs.{run_there, row_written}
 use Rattle.nc_slots.proofs.row.SlotRow.put.Goals as goal
