@@ -23,48 +23,47 @@ fn cursor(alloc: Global, time: u64, tags: &[i32]) -> Result<Cursor, NoMemory>
     Ok(Cursor { time, tags })
 }
 
+/// A cursor is written so, as a whole and its tags alone.
+fn is_written(
+    rt: &impl Abort,
+    alloc: Global,
+    cursor: &Cursor,
+    sent: Option<usize>,
+    id: &[u8],
+    tags: &[u8],
+) -> Result<(), NoMemory>
+    requires { IfSome sent (λ i. i < length cursor.now.tags) }
+{
+    let text = spell_id(alloc, cursor, sent)?;
+    assert_eq!(rt; text.as_slice(), id);
+    let text = spell_tags(alloc, cursor, sent)?;
+    assert_eq!(rt; text.as_slice(), tags);
+    Ok(())
+}
+
 #[test]
 fn ids_are_written(rt: HostRuntime) -> Result<(), Fail> {
     let alloc = rt.alloc();
     let one = cursor(alloc, 100, &[0])?;
-    assert_eq!(rt;
-        spell_id(alloc, &one, None)?.as_slice(),
-        b"100:0".as_slice()
-    );
-    assert_eq!(rt;
-        spell_id(alloc, &one, Some(0))?.as_slice(),
-        b"100:0".as_slice()
-    );
-    assert_eq!(rt;
-        spell_tags(alloc, &one, Some(0))?.as_slice(),
-        b"0".as_slice()
-    );
+    is_written(&rt, alloc, &one, Some(0), b"100:0", b"0")?;
     let two = cursor(alloc, 100, &[0, -1])?;
-    assert_eq!(rt;
-        spell_id(alloc, &two, None)?.as_slice(),
-        b"100:0,-".as_slice()
-    );
-    assert_eq!(rt;
-        spell_id(alloc, &two, Some(0))?.as_slice(),
-        b"100:[0],-".as_slice()
-    );
-    assert_eq!(rt;
-        spell_tags(alloc, &two, Some(1))?.as_slice(),
-        b"0,[-]".as_slice()
-    );
+    is_written(&rt, alloc, &two, None, b"100:0,-", b"0,-")?;
+    is_written(&rt, alloc, &two, Some(0), b"100:[0],-", b"[0],-")?;
+    Ok(())
+}
+
+#[test]
+fn great_ids_are_written(rt: HostRuntime) -> Result<(), Fail> {
+    let alloc = rt.alloc();
     let three = cursor(alloc, GREATEST_TIME, &[-1, 65_535, 7])?;
-    assert_eq!(rt;
-        spell_id(alloc, &three, Some(1))?.as_slice(),
-        b"253402300799:-,[65535],7".as_slice()
-    );
-    assert_eq!(rt;
-        spell_tags(alloc, &three, Some(2))?.as_slice(),
-        b"-,65535,[7]".as_slice()
-    );
-    assert_eq!(rt;
-        spell_tags(alloc, &three, None)?.as_slice(),
-        b"-,65535,7".as_slice()
-    );
+    is_written(
+        &rt,
+        alloc,
+        &three,
+        Some(1),
+        b"253402300799:-,[65535],7",
+        b"-,[65535],7",
+    )?;
     Ok(())
 }
 
