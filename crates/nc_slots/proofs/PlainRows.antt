@@ -97,7 +97,7 @@ poll_shows slots after holds now k n b p view p_is after_is =
     ∙ ap (λ (r : RowAt). set r.slots k (polled (is_held p) (slot_at r.slots k))) view
 
 -- release
-pub release_held : (slots : List Kept) (holds : List ℕ) (k x n : ℕ) → k < length holds → x ≡ get_or holds k x → n ≡ x - 1 → AreHeld slots holds → AreHeld slots (set holds k n)
+pub release_held : (slots : List Kept) (holds : List ℕ) (k x n : ℕ) → k < length holds → x ≡ get_or holds k x → n ≤ x → AreHeld slots holds → AreHeld slots (set holds k n)
 release_held slots holds k x n lt read is are = let x_is = count_read holds k x lt read in held_less slots holds k n are (omega arith)
 
 -- a new row
