@@ -1,5 +1,6 @@
 //! Lines of each kind that are read and written again, and the places of lines that aren't read.
 use crate::{BadLine, event_of, line_of, one_line};
+use nc_types::Bytes;
 use std::alloc::Global;
 use std::test::Fail;
 
@@ -53,12 +54,22 @@ static LINES: [&str; 47] = [
     "quiet",
 ];
 
+/// The line of the event that a line is read as.
+fn read_back(alloc: Global, line: &[u8]) -> Result<Bytes, BadLine> {
+    let event = event_of(alloc, line)?;
+    let again = line_of(alloc, &event);
+    drop(event);
+    match again {
+        Ok(text) => Ok(text),
+        Err(_) => Err(BadLine::NoMemory),
+    }
+}
+
 #[test]
 fn lines_are_read_back(rt: HostRuntime) -> Result<(), Fail> {
     let alloc = rt.alloc();
     for line in &LINES {
-        let event = event_of(alloc, line.as_bytes())?;
-        let again = line_of(alloc, &event)?;
+        let again = read_back(alloc, line.as_bytes())?;
         assert_eq!(rt; again.as_slice(), line.as_bytes(), "{line}");
     }
     Ok(())
@@ -68,7 +79,11 @@ fn lines_are_read_back(rt: HostRuntime) -> Result<(), Fail> {
 fn place(alloc: Global, line: &[u8]) -> Option<usize> {
     match event_of(alloc, line) {
         Err(BadLine::Bad { at }) => Some(at),
-        _ => None,
+        Err(BadLine::NoMemory) => None,
+        Ok(event) => {
+            drop(event);
+            None
+        }
     }
 }
 

@@ -30,6 +30,13 @@ fn cursor(alloc: Global, time: u64, tags: &[i32]) -> Result<Cursor, NoMemory>
     Ok(Cursor { time, tags })
 }
 
+/// The line of an event, which is dropped.
+fn line_text(alloc: Global, event: Event) -> Result<Bytes, NoMemory> {
+    let text = line_of(alloc, &event);
+    drop(event);
+    text
+}
+
 #[test]
 fn stored(rt: HostRuntime) -> Result<(), Fail> {
     let alloc = rt.alloc();
@@ -47,7 +54,7 @@ fn stored(rt: HostRuntime) -> Result<(), Fail> {
         ct: None,
         body: bytes(alloc, b"x\n\x00")?,
     };
-    let line = line_of(alloc, &event)?;
+    let line = line_text(alloc, event)?;
     assert_eq!(rt;
         line.as_slice(),
         br#"stored w=1 c="a\"" id=100:0 slot=2 len=10 exp=3700 kept=1 members=3 from=4 r=5 ct=- body="x\n\x00""#.as_slice()
@@ -67,7 +74,7 @@ fn sent(rt: HostRuntime) -> Result<(), Fail> {
         cur: cursor(alloc, 91, &[-1, 0, 3])?,
         looks: List::of(Vec::from_slice(alloc, &[2u64, 5, 6])?),
     };
-    let line = line_of(alloc, &event)?;
+    let line = line_text(alloc, event)?;
     assert_eq!(rt;
         line.as_slice(),
         br#"sent w=0 k=1 i=1 c="b" id=91:0 cur=91:-,[0],3 looks=2,5,6"#.as_slice()
