@@ -1,0 +1,8 @@
+use Rattle.std.proofs.Common.{sym, subst, ◌∙◌, ap}
+use Rattle.nc_types.specs.Settings.{IsSeconds}
+use Rattle.nc_conf.specs.Config.{number_or}
+use Rattle.nc_conf.proofs.Ranges.{timeout_within}
+use Rattle.nc_conf.proofs.config.message_timeout.Goals as goal
+
+pub returns-clause-within : goal.returns-clause-within
+returns-clause-within c = subst IsSeconds (sym (c.number_or.ensures ∙ ap (number_or 3600) c.inherited.ensures)) (timeout_within c.args.directives.now c.args.block)

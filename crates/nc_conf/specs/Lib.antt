@@ -1,0 +1,9 @@
+pub mod Syntax
+pub mod Reader
+pub mod Value
+pub mod Table
+pub mod Faults
+pub mod First
+pub mod Config
+pub mod Reading
+pub mod Answer
