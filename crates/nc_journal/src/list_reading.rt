@@ -5,23 +5,11 @@ ghost use Rattle.nc_grammar.specs.Gives.{Gives, GivesBy};
 ghost use Rattle.nc_grammar.specs.Reading.{map_read};
 ghost use Rattle.nc_grammar.specs.Label.{field_at};
 ghost use Rattle.nc_grammar.specs.Maybe.{option_at};
-ghost use Rattle.nc_journal.specs.NameReader.{is_among, new_name_at, list_at};
+ghost use Rattle.nc_journal.specs.NameReader.{new_name_at, list_at};
 
 use nc_grammar::{Fault, Reader};
-use nc_types::{ChanList, ChanName, List};
+use nc_types::{ChanList, ChanName, SeenNames};
 use std::alloc::Global;
-
-/// Whether a name stands among some.
-fn is_among(name: &[u8], names: &[ChanName]) -> bool
-    ensures { result ≡ is_among name.now names.now }
-{
-    for other in names {
-        if name == other.bytes.as_slice() {
-            return true;
-        }
-    }
-    false
-}
 
 /// Puts a name behind others that are none of it.
 ///
@@ -29,14 +17,14 @@ fn is_among(name: &[u8], names: &[ChanName]) -> bool
 fn push_new_name<'t>(
     alloc: Global,
     reader: &mut Reader<'t>,
-    names: &mut List<ChanName>,
+    names: &mut SeenNames,
 ) -> Result<(), Fault>
     ensures read { GivesBy (λ u. names.new) reader.new result (map_read (λ name. names.old ++ name ∷ []) (new_name_at names.old reader.old)) }
     ensures distinct { OnOk result (AreDistinct names.old → (0 < length names.new) × AreDistinct names.new) }
 {
     let start = reader.rest();
     let bytes = reader.quoted(alloc)?;
-    if is_among(bytes.as_slice(), names.as_slice()) {
+    if names.has(bytes.as_slice()) {
         let read = start.len() - reader.left();
         *reader = Reader::new(&start[read - 1..]);
         return Err(Fault::Stuck);
@@ -48,12 +36,14 @@ fn push_new_name<'t>(
 fn any_list(alloc: Global, reader: &mut Reader<'_>) -> Result<ChanList, Fault>
     ensures { Gives reader.new result (list_at reader.old) }
 {
-    let mut names = List::new(alloc);
+    let mut names = SeenNames::new(alloc);
     push_new_name(alloc, reader, &mut names)?;
     while reader.takes(b',') {
         push_new_name(alloc, reader, &mut names)?;
     }
-    Ok(ChanList { names })
+    Ok(ChanList {
+        names: names.into_list(),
+    })
 }
 
 pub(crate) fn list(alloc: Global, reader: &mut Reader<'_>, label: &[u8]) -> Result<ChanList, Fault>

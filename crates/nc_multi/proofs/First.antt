@@ -1,6 +1,6 @@
 -- The first name that has a property.
 use Rattle.std.proofs.Common.{ℕ, zero, suc, ◌+◌, ◌<◌, ◌≤◌, List, [], ◌∷◌, length, arith, ◌≡◌, ◌≢◌, ◌∙◌, refl, sym, ap, subst, get_or, eqb, true, false}
-use Rattle.std.specs.Prelude.{Option, Some, None, slice_get}
+use Rattle.std.specs.Prelude.{Some, slice_get}
 use Rattle.std.proofs.lemmas.Bool.{eqb-true, eqb-false}
 use Rattle.nc_multi.specs.Names.{NoneIs}
 

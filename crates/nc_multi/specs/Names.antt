@@ -1,5 +1,5 @@
 -- Lists of names without repeats, and when names make none.
-use Rattle.std.specs.Prelude.{◌≡◌, ◌≢◌, ◌⊎◌, ℕ, ◌<◌, ◌≤◌, not, List, [], ◌∷◌, length, ◌++◌, filter, slice_get, Some, if◌then◌else◌}
+use Rattle.std.specs.Prelude.{◌≡◌, ◌⊎◌, ℕ, ◌<◌, ◌≤◌, not, List, [], ◌∷◌, length, ◌++◌, filter, slice_get, Some, if◌then◌else◌}
 use Rattle.std.specs.List.{list_any}
 use Rattle.nc_types.specs.Channel.{name_eq}
 use Rattle.nc_multi.specs.declared.list.ListRefusal.{ListRefusal}

@@ -1,11 +1,9 @@
 //! A list from names.
 ghost use Rattle.std.specs.Prelude.{◌≡◌, ℕ, ◌<◌, ◌≤◌, ◌∷◌, [], length, List as Items, IfOk, IfErr, IfSome, IfNone, OnOk};
-ghost use Rattle.std.specs.List.{list_any};
-ghost use Rattle.nc_types.specs.Channel.{name_eq};
 ghost use Rattle.nc_multi.specs.declared.list.ListRefusal.TheVariants.{NoMemory as NoMemoryLeft};
 ghost use Rattle.nc_multi.specs.Names.{distinct, IsEmpty, IsLonger, NoneIs, IsFirst, IsListOf, IsRefused, with_name};
 
-use nc_types::{Bytes, ChanList, ChanName, List, NoMemory};
+use nc_types::{Bytes, ChanList, ChanName, List, NoMemory, SeenNames};
 use std::alloc::Global;
 
 /// Why names make no list. Places are counted from 0.
@@ -54,23 +52,11 @@ fn first_longer(names: &[Bytes], longest: u32) -> Option<(usize, usize)>
     None
 }
 
-/// Whether a name is among some.
-fn is_among(name: &Bytes, names: &[ChanName]) -> bool
-    ensures { result ≡ list_any (name_eq name.now) names.now }
-{
-    for other in names {
-        if name.as_slice() == other.bytes.as_slice() {
-            return true;
-        }
-    }
-    false
-}
-
 /// Puts a name behind the others, unless it is among them.
-fn keep(kept: &mut List<ChanName>, name: &Bytes) -> Result<(), NoMemory>
+fn keep(kept: &mut SeenNames, name: &Bytes) -> Result<(), NoMemory>
     ensures { OnOk result (kept.new ≡ with_name kept.old name.now) }
 {
-    if is_among(name, kept.as_slice()) {
+    if kept.has(name.as_slice()) {
         return Ok(());
     }
     let bytes = name.copied()?;
@@ -81,11 +67,11 @@ fn keep(kept: &mut List<ChanName>, name: &Bytes) -> Result<(), NoMemory>
 fn distinct(alloc: Global, names: &[Bytes]) -> Result<List<ChanName>, NoMemory>
     ensures { IfOk result (λ kept. kept ≡ distinct names.now) }
 {
-    let mut kept = List::new(alloc);
+    let mut kept = SeenNames::new(alloc);
     for name in names {
         keep(&mut kept, name)?;
     }
-    Ok(kept)
+    Ok(kept.into_list())
 }
 
 /// The list of some names: each at its first place, of at most `longest` bytes, and at most `most` of them.

@@ -17,10 +17,40 @@ fn named(alloc: Global, names: &[&[u8]]) -> Result<Vec<Bytes>, AllocError> {
 #[test]
 fn repeated_names_keep_their_first_place(rt: HostRuntime) -> Result<(), Fail> {
     let alloc = rt.alloc();
-    let names = named(alloc, &[b"b".as_slice(), b"a", b"b", b"ab", b"a", b"c"])?;
-    let list = list_of(alloc, &names, 2, 4)?;
-    assert_eq!(rt; list.names.len(), 4);
-    let kept = [b"b".as_slice(), b"a", b"ab", b"c"];
+    let given = [
+        b"b".as_slice(),
+        b"a",
+        b"b",
+        b"ab",
+        b"a",
+        b"c",
+        b"d",
+        b"e",
+        b"f",
+        b"g",
+        b"z",
+        b"y",
+        b"z",
+        b"h",
+        b"ab",
+        b"y",
+    ];
+    let names = named(alloc, &given)?;
+    let list = list_of(alloc, &names, 2, 11)?;
+    assert_eq!(rt; list.names.len(), 11);
+    let kept = [
+        b"b".as_slice(),
+        b"a",
+        b"ab",
+        b"c",
+        b"d",
+        b"e",
+        b"f",
+        b"g",
+        b"z",
+        b"y",
+        b"h",
+    ];
     for (name, bytes) in list.names.as_slice().iter().zip(kept.iter()) {
         assert_eq!(rt; name.bytes.as_slice(), *bytes);
     }

@@ -241,7 +241,7 @@ fn place_of(channels: &[Channel], name: &ChanName) -> Result<usize, usize>
     ensures { MatchResult result (IsPlaceOf name.now channels.now) (IsPlaceFrom name.now channels.now) }
 {
     for (at, channel) in channels.iter().enumerate() {
-        if channel.name.is_same(name) {
+        if channel.name == *name {
             return Ok(at);
         }
         if is_before(name, &channel.name) {

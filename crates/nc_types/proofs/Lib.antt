@@ -2,3 +2,4 @@ mod Tags
 mod Decimal
 mod Pieces
 mod UnquoteLaws
+mod LaterNames

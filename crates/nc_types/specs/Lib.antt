@@ -6,3 +6,4 @@ pub mod Text
 pub mod Unquote
 pub mod Settings
 pub mod Config
+pub mod Names

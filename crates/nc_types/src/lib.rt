@@ -13,6 +13,7 @@ pub mod laws;
 mod list;
 mod message;
 mod request;
+mod seen;
 mod settings;
 mod start;
 #[cfg(test)]
@@ -28,5 +29,6 @@ pub use info::{FullLine, Info};
 pub use list::{Bytes, List, NoMemory};
 pub use message::Msg;
 pub use request::{Allow, Field, Request};
+pub use seen::SeenNames;
 pub use settings::Settings;
 pub use start::Start;

@@ -1,9 +1,9 @@
 //! Each call once, at values worked out by hand.
-ghost use Rattle.std.specs.Prelude.{◌≡◌, length, IfOk};
+ghost use Rattle.std.specs.Prelude.{◌≡◌, ◌<◌, length, IfOk};
 ghost use Rattle.nc_types.specs.Id.{IsTime, IsTag};
 
 use crate::text::{UnquoteFault, decimal, put_decimal, put_quoted, quote, read_decimal, unquote};
-use crate::{ChanName, Cursor, List, MsgId, NoMemory};
+use crate::{ChanName, Cursor, List, MsgId, NoMemory, SeenNames};
 use std::alloc::Global;
 use std::test::Fail;
 
@@ -88,7 +88,7 @@ fn channels(rt: HostRuntime) -> Result<(), Fail> {
         assert_eq!(rt; name.owner(workers), owner, "the owner of {bytes:?}");
         let copy = name.copied()?;
         assert_eq!(rt; copy.bytes.as_slice(), bytes);
-        assert!(rt; copy.is_same(&name));
+        assert!(rt; copy == name);
     }
     let a = ChanName {
         bytes: list_of(alloc, b"a")?,
@@ -96,7 +96,36 @@ fn channels(rt: HostRuntime) -> Result<(), Fail> {
     let ab = ChanName {
         bytes: list_of(alloc, b"ab")?,
     };
-    assert!(rt; !a.is_same(&ab));
+    assert!(rt; a != ab);
+    assert!(rt; a < ab);
+    Ok(())
+}
+
+/// The name of one letter, the nth from `a`.
+fn letter(alloc: Global, n: u8) -> Result<ChanName, NoMemory>
+    requires { n < 100 }
+{
+    let bytes = list_of(alloc, &[b'a' + n])?;
+    Ok(ChanName { bytes })
+}
+
+#[test]
+fn names_are_seen(rt: HostRuntime) -> Result<(), Fail> {
+    let alloc = rt.alloc();
+    let mut seen = SeenNames::new(alloc);
+    for n in 0..20u8 {
+        let name = letter(alloc, n)?;
+        assert!(rt; !seen.has(name.bytes.as_slice()), "{n} before");
+        seen.push(name)?;
+    }
+    for n in 0..20u8 {
+        let name = letter(alloc, n)?;
+        assert!(rt; seen.has(name.bytes.as_slice()), "{n}");
+    }
+    assert!(rt; !seen.has(b"aa"));
+    assert!(rt; !seen.has(b"u"));
+    let names = seen.into_list();
+    assert_eq!(rt; names.len(), 20);
     Ok(())
 }
 

@@ -6,18 +6,18 @@ use Rattle.nc_journal.proofs.list_reading.push_new_name.Goals as goal
 pub overflow_sub-read : goal.overflow_sub-read
 overflow_sub-read c = let k = closing c.args.reader.now _ c.quoted.new.self c.in_ok-bytes.ensures in omega (arith, k.shorter, c.left.ensures, ap length c.rest-start.ensures)
 
-pub overflow_sub-read-then-is_among : goal.overflow_sub-read-then-is_among
-overflow_sub-read-then-is_among c = let k = closing c.args.reader.now _ c.quoted.new.self c.in_ok-bytes.ensures in omega (arith, k.shorter, c.left.ensures, ap length c.rest-start.ensures)
+pub overflow_sub-read-then-has : goal.overflow_sub-read-then-has
+overflow_sub-read-then-has c = let k = closing c.args.reader.now _ c.quoted.new.self c.in_ok-bytes.ensures in omega (arith, k.shorter, c.left.ensures, ap length c.rest-start.ensures)
 
-pub returns-then-is_among-clause-read : goal.returns-then-is_among-clause-read
-returns-then-is_among-clause-read c =
+pub returns-then-has-clause-read : goal.returns-then-has-clause-read
+returns-then-has-clause-read c =
     repeated_name c.args.names.now c.args.reader.now _ c.quoted.new.self c.new.result (length c.rest-start.result.now - c.left.result - 1) c.in_ok-bytes.ensures
-    (ap (λ n. is_among n c.args.names.now) (sym c.as_slice.ensures) ∙ ap (is_among c.as_slice.result.now) (sym c.as_slice-2.ensures) ∙ sym c.is_among.ensures ∙ c.if-is_among.true)
+    (ap (λ n. is_among n c.args.names.now) (sym c.as_slice.ensures) ∙ sym c.has.ensures ∙ c.if-has.true)
     (ap (λ s. length s - c.left.result - 1) c.rest-start.ensures ∙ ap (λ n. length c.args.reader.now - n - 1) c.left.ensures)
     (c.new.ensures ∙ ap (λ s. take (length s - (length c.rest-start.result.now - c.left.result - 1)) (drop (length c.rest-start.result.now - c.left.result - 1) s)) c.rest-start.ensures)
 
 pub returns-clause-distinct : goal.returns-clause-distinct
 returns-clause-distinct c =
     distinct_put c.args.names.now c.push.new.self _
-    (ap (λ n. is_among n c.args.names.now) (sym c.as_slice.ensures) ∙ ap (is_among c.as_slice.result.now) (sym c.as_slice-2.ensures) ∙ sym c.is_among.ensures ∙ c.if-is_among.false)
-    c.in_ok-push.ensures.ok
+    (ap (λ n. is_among n c.args.names.now) (sym c.as_slice.ensures) ∙ sym c.has.ensures ∙ c.if-has.false)
+    c.in_ok-push.ensures

@@ -1,5 +1,4 @@
-use Rattle.std.proofs.Common.{arith, ◌≡◌, ◌∙◌, sym, ap, List, ℕ, ◌+◌, take}
-use Rattle.nc_multi.specs.Names.{distinct, with_name}
+use Rattle.std.proofs.Common.{arith}
 use Rattle.nc_multi.proofs.Distinct.{distinct-next}
 use Rattle.nc_multi.proofs.list.distinct.Goals as goal
 
