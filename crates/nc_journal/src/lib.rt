@@ -34,8 +34,3 @@ pub use laws::{ids_rise, text_grows};
 pub use line::{line_of, put_lines};
 pub use reading::{BadLine, event_of, one_line};
 pub use word::{Act, AlertKind, EndedCause, LeftCause, ModeLine, RemovedCause, ShutCause};
-
-#[cfg(test)]
-mod reading_tests;
-#[cfg(test)]
-mod tests;

@@ -1,11 +1,13 @@
 //! Events made by hand and their lines, as docs/JOURNAL.md spells them.
 //!
+//! They are tests of `nc_journal`, which stand above it so that its proof is made once.
+//!
 //! The lines of all kinds, read and written again, stand in `reading_tests`.
 ghost use Rattle.std.specs.Prelude.{◌≡◌, ◌<◌, length, IfOk};
 ghost use Rattle.nc_types.specs.Id.{IsTime};
 ghost use Rattle.nc_types.specs.Cursor.{AreTags};
 
-use crate::{AlertKind, Event, line_of, put_lines, text_grows};
+use nc_journal::{AlertKind, Event, line_of, put_lines, text_grows};
 use nc_types::{Bytes, ChanName, Cursor, List, MsgId, NoMemory};
 use std::alloc::Global;
 use std::test::Fail;

@@ -1,5 +1,5 @@
-//! Lines of each kind that are read and written again, and the places of lines that aren't read.
-use crate::{BadLine, event_of, line_of, one_line};
+//! Lines of each kind that are read and written again, and the places of lines that aren't read: tests of `nc_journal`.
+use nc_journal::{BadLine, event_of, line_of, one_line};
 use nc_types::Bytes;
 use std::alloc::Global;
 use std::test::Fail;
