@@ -1,7 +1,7 @@
-pub mod Rows
 pub mod Digits
 pub mod SoFar
 pub mod First
 pub mod Ranges
+pub mod Known
 pub mod Texts
 pub mod One

@@ -1,10 +1,8 @@
 -- A text has one first fault or one configuration.
-use Rattle.std.proofs.Common.{◌≡◌, ℕ, ◌+◌, ◌-◌, ◌<◌, List, [], ◌∷◌, ◌++◌, length, drop, true, false, Option, Some, None, refl, sym, ◌∙◌, subst, ap, inl, inr, arith, append_assoc}
+use Rattle.std.proofs.Common.{◌≡◌, ℕ, ◌+◌, ◌-◌, ◌<◌, List, [], ◌∷◌, ◌++◌, length, true, false, Option, Some, None, refl, sym, ◌∙◌, subst, ap, inl, inr, arith, append_assoc}
 use Rattle.std.specs.Prelude.{fold}
 use Rattle.std.specs.List.{AllByRecursion, flat_map}
 use Rattle.std.proofs.lemmas.Bool.Decides.{nat_tests}
-use Rattle.std.proofs.lemmas.Grind.{fold-append}
-use Rattle.nc_types.specs.Config.{ConfigAt}
 use Rattle.nc_conf_lex.specs.declared.token.Token.{Token}
 use Rattle.nc_conf_lex.specs.declared.token.Token.TheVariants as tokens
 use Rattle.nc_conf_lex.specs.Reading.{OneReading}
@@ -18,7 +16,6 @@ use Rattle.nc_conf.specs.Faults.{faults_of}
 use Rattle.nc_conf.specs.First.{is_before, IsIn, IsNotBefore, IsFirst}
 use Rattle.nc_conf.specs.Config.{config_of}
 use Rattle.nc_conf.specs.Reader.{SyntaxAt, empty, after, words_of, all_faults}
-use Rattle.nc_conf.specs.Reading.{HasSyntax, IsReading, HasFirst, HasConfig}
 use Rattle.nc_conf.specs.Answer.{OneFirst, OneConfig, NeverBoth}
 
 -- the reader over the tokens of items

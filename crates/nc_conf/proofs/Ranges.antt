@@ -21,15 +21,15 @@ cons a b xs ys p q = cc
 same_byte : (a b : ℕ) → nat_eq a b ≡ true → a ≡ b
 same_byte a b e = grind (arith, nat_tests)
 
-both_left : (a b : Bool) → (a && b) ≡ true → a ≡ true
+pub both_left : (a b : Bool) → (a && b) ≡ true → a ≡ true
 both_left true b e = refl
 both_left false b e = absurd (cc)
 
-both_right : (a b : Bool) → (a && b) ≡ true → b ≡ true
+pub both_right : (a b : Bool) → (a && b) ≡ true → b ≡ true
 both_right true b e = e
 both_right false b e = absurd (cc)
 
-same_is : (xs ys : List ℕ) → same xs ys ≡ true → xs ≡ ys
+pub same_is : (xs ys : List ℕ) → same xs ys ≡ true → xs ≡ ys
 same_is [] [] e = refl
 same_is [] (y ∷ ys) e = absurd (cc)
 same_is (x ∷ xs) [] e = absurd (cc)

@@ -1,5 +1,5 @@
 -- What holds of the answers for a text.
-use Rattle.std.specs.Prelude.{◌≡◌, ℕ, List, Option, Some, ◌⊎◌}
+use Rattle.std.specs.Prelude.{◌≡◌, ℕ, List, Option, Some}
 use Rattle.nc_types.specs.Config.{ConfigAt}
 use Rattle.nc_conf.specs.declared.fault.Fault.{Fault}
 use Rattle.nc_conf.specs.Reading.{HasFirst, HasConfig}

@@ -5,5 +5,7 @@ pub mod Table
 pub mod Faults
 pub mod First
 pub mod Config
+pub mod Lines
+pub mod Ways
 pub mod Reading
 pub mod Answer

@@ -5,152 +5,109 @@ ghost use Rattle.std.specs.Option.{option_copied};
 ghost use Rattle.nc_types.specs.Config.{IsWorkers, IsSlots};
 ghost use Rattle.nc_types.specs.Settings.{IsLength, IsSeconds, IsNameLimit, IsBodyLimit};
 ghost use Rattle.nc_conf.specs.Value.{is_dollar, is_name_byte, plain_part, arg_parts, parts_of, id_text, address};
-ghost use Rattle.nc_conf.specs.Config.{line_in, around, inherited, argument, value, value_of, number_or, has_argument, settings_of, is_way_of, allows, subscribes, id_of, ids_of, text_of, location_of, has_name, locations_from, listened, addresses_or, addresses, block_named, base_block, config_of};
+ghost use Rattle.nc_conf.specs.Config.{line_in, around, inherited, number_or, has_argument, settings_of, is_way_of, allows, subscribes, id_of, ids_of, text_of, location_of, has_name, locations_from, listened, addresses_or, addresses, block_named, base_block, config_of};
 
-use crate::judge::{has_line, has_word, is_exact, is_named, path_of};
+use crate::judge::{has_name, has_word, is_exact, path_of};
+use crate::lines::{Line, Lines};
 use crate::syntax::{Directive, Word};
-use crate::table::{Shape, row_of};
 use crate::value;
 use nc_types::{Bytes, Config, IdPart, IdText, List, Listen, Location, NoMemory, Settings};
 use std::alloc::{AllocError, Global};
 
-/// The directive of a name in a block.
-fn line_in<'d>(
-    directives: &'d [Directive],
-    block: Option<usize>,
-    name: &[u8],
-) -> Option<&'d Directive>
-    ensures { option_copied result ≡ line_in directives.now block name.now }
-{
-    directives.iter().find(|e| is_named(block, name, e))
-}
-
 /// The block around a block.
-fn around(directives: &[Directive], block: Option<usize>) -> Option<usize>
-    ensures { result ≡ around directives.now block }
+fn around(lines: &Lines<'_>, block: Option<usize>) -> Option<usize>
+    ensures { result ≡ around lines.now block }
 {
-    let d = directives.get(block?)?;
+    let d = lines.get(block?)?;
     d.within
 }
 
-/// The directive of a setting: the block's own, else that of the block around it, else that of the next.
-fn inherited<'d>(
-    directives: &'d [Directive],
+/// The line of a setting: the block's own, else that of the block around it, else that of the next.
+fn inherited<'l, 'd>(
+    lines: &'l Lines<'d>,
     block: Option<usize>,
-    name: &[u8],
-) -> Option<&'d Directive>
-    ensures { option_copied result ≡ inherited directives.now block name.now }
+    name: &'d [u8],
+) -> Option<&'l Line<'d>>
+    ensures { option_copied result ≡ inherited lines.now block name.now }
 {
-    let outer = around(directives, block);
-    if let Some(line) = line_in(directives, block, name) {
+    let outer = around(lines, block);
+    if let Some(line) = lines.first(block, name) {
         return Some(line);
     }
-    if let Some(line) = line_in(directives, outer, name) {
+    if let Some(line) = lines.first(outer, name) {
         return Some(line);
     }
-    line_in(directives, around(directives, outer), name)
+    lines.first(around(lines, outer), name)
 }
 
-/// The number that an argument of a shape stands for.
-fn value(shape: Shape, text: &[u8]) -> Option<u32>
-    ensures { result ≡ value shape text.now }
-{
-    match shape {
-        Shape::Number { low, high } => value::number(low, high, text),
-        Shape::Seconds => value::seconds(text),
-        Shape::Size => value::size(text),
-        _ => None,
-    }
-}
-
-/// The number that a directive sets.
-fn value_of(d: &Directive) -> Option<u32>
-    ensures { result ≡ value_of d.now }
-{
-    let row = row_of(d.name.text.as_slice())?;
-    match d.args.as_slice() {
-        [] => None,
-        [word, ..] => value(row.shape, word.text.as_slice()),
-    }
-}
-
-fn number_or(otherwise: u32, line: Option<&Directive>) -> u32
+fn number_or(otherwise: u32, line: Option<&Line<'_>>) -> u32
     ensures { result ≡ number_or otherwise (option_copied line.entry) }
 {
     match line {
         None => otherwise,
-        Some(d) => value_of(d).unwrap_or(otherwise),
+        Some(line) => line.number().unwrap_or(otherwise),
     }
 }
 
-fn has_argument(text: &[u8], line: Option<&Directive>) -> bool
+fn has_argument(text: &[u8], line: Option<&Line<'_>>) -> bool
     ensures { result ≡ has_argument text.now (option_copied line.entry) }
 {
     match line {
         None => false,
-        Some(d) => has_word(d.args.as_slice(), text),
+        Some(line) => has_word(line.directive().args.as_slice(), text),
     }
 }
 
-fn buffer_length(directives: &[Directive], block: Option<usize>) -> u32
-    ensures is { result ≡ number_or 10 (inherited directives.now block (codes "nchan_message_buffer_length")) }
+fn buffer_length(lines: &Lines<'_>, block: Option<usize>) -> u32
+    ensures is { result ≡ number_or 10 (inherited lines.now block (codes "nchan_message_buffer_length")) }
     ensures within { IsLength result }
 {
-    number_or(
-        10,
-        inherited(directives, block, b"nchan_message_buffer_length"),
-    )
+    number_or(10, inherited(lines, block, b"nchan_message_buffer_length"))
 }
 
-fn message_timeout(directives: &[Directive], block: Option<usize>) -> u32
-    ensures is { result ≡ number_or 3600 (inherited directives.now block (codes "nchan_message_timeout")) }
+fn message_timeout(lines: &Lines<'_>, block: Option<usize>) -> u32
+    ensures is { result ≡ number_or 3600 (inherited lines.now block (codes "nchan_message_timeout")) }
     ensures within { IsSeconds result }
 {
-    number_or(
-        3_600,
-        inherited(directives, block, b"nchan_message_timeout"),
-    )
+    number_or(3_600, inherited(lines, block, b"nchan_message_timeout"))
 }
 
-fn subscriber_timeout(directives: &[Directive], block: Option<usize>) -> u32
-    ensures is { result ≡ number_or 0 (inherited directives.now block (codes "nchan_subscriber_timeout")) }
+fn subscriber_timeout(lines: &Lines<'_>, block: Option<usize>) -> u32
+    ensures is { result ≡ number_or 0 (inherited lines.now block (codes "nchan_subscriber_timeout")) }
     ensures within { IsSeconds result }
 {
-    number_or(0, inherited(directives, block, b"nchan_subscriber_timeout"))
+    number_or(0, inherited(lines, block, b"nchan_subscriber_timeout"))
 }
 
-fn name_limit(directives: &[Directive], block: Option<usize>) -> u32
-    ensures is { result ≡ number_or 1024 (inherited directives.now block (codes "nchan_max_channel_id_length")) }
+fn name_limit(lines: &Lines<'_>, block: Option<usize>) -> u32
+    ensures is { result ≡ number_or 1024 (inherited lines.now block (codes "nchan_max_channel_id_length")) }
     ensures within { IsNameLimit result }
 {
     number_or(
         1_024,
-        inherited(directives, block, b"nchan_max_channel_id_length"),
+        inherited(lines, block, b"nchan_max_channel_id_length"),
     )
 }
 
-fn body_limit(directives: &[Directive], block: Option<usize>) -> u32
-    ensures is { result ≡ number_or 65536 (inherited directives.now block (codes "client_max_body_size")) }
+fn body_limit(lines: &Lines<'_>, block: Option<usize>) -> u32
+    ensures is { result ≡ number_or 65536 (inherited lines.now block (codes "client_max_body_size")) }
     ensures within { IsBodyLimit result }
 {
-    number_or(
-        65_536,
-        inherited(directives, block, b"client_max_body_size"),
-    )
+    number_or(65_536, inherited(lines, block, b"client_max_body_size"))
 }
 
 /// The settings of a block.
-fn settings_of(directives: &[Directive], block: Option<usize>) -> Settings
-    ensures { result ≡ settings_of directives.now block }
+fn settings_of(lines: &Lines<'_>, block: Option<usize>) -> Settings
+    ensures { result ≡ settings_of lines.now block }
 {
-    let first_message = inherited(directives, block, b"nchan_subscriber_first_message");
+    let first_message = inherited(lines, block, b"nchan_subscriber_first_message");
     Settings {
-        length: buffer_length(directives, block),
-        timeout: u64::from(message_timeout(directives, block)),
-        sub_timeout: u64::from(subscriber_timeout(directives, block)),
+        length: buffer_length(lines, block),
+        timeout: u64::from(message_timeout(lines, block)),
+        sub_timeout: u64::from(subscriber_timeout(lines, block)),
         newest: has_argument(b"newest", first_message),
-        max_name: name_limit(directives, block),
-        max_body: body_limit(directives, block),
+        max_name: name_limit(lines, block),
+        max_body: body_limit(lines, block),
     }
 }
 
@@ -160,21 +117,20 @@ fn is_way_of(way: &[u8], args: &[Word]) -> bool
     args.is_empty() || has_word(args, way)
 }
 
-fn allows(way: &[u8], line: Option<&Directive>) -> bool
+fn allows(way: &[u8], line: Option<&Line<'_>>) -> bool
     ensures { result ≡ allows way.now (option_copied line.entry) }
 {
     match line {
         None => false,
-        Some(d) => is_way_of(way, d.args.as_slice()),
+        Some(line) => is_way_of(way, line.directive().args.as_slice()),
     }
 }
 
 /// Whether subscribers may ask by a way at the location of this block.
-fn subscribes(directives: &[Directive], block: usize, way: &[u8]) -> bool
-    ensures { result ≡ subscribes directives.now block way.now }
+fn subscribes(lines: &Lines<'_>, block: usize, way: &[u8]) -> bool
+    ensures { result ≡ subscribes lines.now block way.now }
 {
-    has_line(directives, block, b"nchan_pubsub")
-        || allows(way, line_in(directives, Some(block), b"nchan_subscriber"))
+    lines.has(block, b"nchan_pubsub") || allows(way, lines.first(Some(block), b"nchan_subscriber"))
 }
 
 fn push_plain(alloc: Global, parts: &mut List<IdPart>, text: &[u8]) -> Result<(), NoMemory>
@@ -249,12 +205,12 @@ fn each_id(alloc: Global, args: &[Word]) -> Result<List<IdText>, NoMemory>
     Ok(ids)
 }
 
-fn ids_of(alloc: Global, line: Option<&Directive>) -> Result<List<IdText>, NoMemory>
+fn ids_of(alloc: Global, line: Option<&Line<'_>>) -> Result<List<IdText>, NoMemory>
     ensures { IfOk result (λ ids. ids ≡ ids_of (option_copied line.entry)) }
 {
     match line {
         None => Ok(List::new(alloc)),
-        Some(d) => each_id(alloc, d.args.as_slice()),
+        Some(line) => each_id(alloc, line.directive().args.as_slice()),
     }
 }
 
@@ -270,41 +226,38 @@ fn text_of(alloc: Global, word: Option<&Word>) -> Result<Bytes, NoMemory>
 /// A location, by the number of its directive.
 fn location_of(
     alloc: Global,
-    directives: &[Directive],
+    lines: &Lines<'_>,
     i: usize,
     d: &Directive,
 ) -> Result<Location, NoMemory>
-    ensures { IfOk result (λ l. l ≡ location_of directives.now i d.now) }
+    ensures { IfOk result (λ l. l ≡ location_of lines.now i d.now) }
 {
     let args = d.args.as_slice();
     let path = text_of(alloc, path_of(args))?;
-    let ids = ids_of(alloc, line_in(directives, Some(i), b"nchan_channel_id"))?;
-    let publisher = has_line(directives, i, b"nchan_publisher")
-        || has_line(directives, i, b"nchan_pubsub");
+    let ids = ids_of(alloc, lines.first(Some(i), b"nchan_channel_id"))?;
+    let publisher = lines.has(i, b"nchan_publisher") || lines.has(i, b"nchan_pubsub");
     Ok(Location {
         exact: is_exact(args),
         path,
         publisher,
-        longpoll: subscribes(directives, i, b"longpoll"),
-        socket: subscribes(directives, i, b"websocket"),
+        longpoll: subscribes(lines, i, b"longpoll"),
+        socket: subscribes(lines, i, b"websocket"),
         ids,
-        settings: settings_of(directives, Some(i)),
+        settings: settings_of(lines, Some(i)),
     })
 }
 
-fn has_name(name: &[u8], d: &Directive) -> bool
-    ensures { result ≡ has_name name.now d.now }
-{
-    d.name.text.as_slice() == name
-}
-
-fn locations(alloc: Global, directives: &[Directive]) -> Result<List<Location>, NoMemory>
-    ensures { IfOk result (λ ls. ls ≡ locations_from directives.now 0 directives.now) }
+fn locations(
+    alloc: Global,
+    directives: &[Directive],
+    lines: &Lines<'_>,
+) -> Result<List<Location>, NoMemory>
+    ensures { IfOk result (λ ls. ls ≡ locations_from lines.now 0 directives.now) }
 {
     let mut locations = List::new(alloc);
     for (i, d) in directives.iter().enumerate() {
         if has_name(b"location", d) {
-            locations.push(location_of(alloc, directives, i, d)?)?;
+            locations.push(location_of(alloc, lines, i, d)?)?;
         }
     }
     Ok(locations)
@@ -362,30 +315,35 @@ fn base_block(directives: &[Directive]) -> Option<usize>
     block_named(directives, b"server").or(block_named(directives, b"http"))
 }
 
-fn workers(directives: &[Directive]) -> u8
-    ensures is { result ≡ number_or 1 (line_in directives.now None (codes "worker_processes")) }
+fn workers(lines: &Lines<'_>) -> u8
+    ensures is { result ≡ number_or 1 (line_in lines.now None (codes "worker_processes")) }
     ensures within { IsWorkers result }
 {
-    number_or(1, line_in(directives, None, b"worker_processes")) as u8
+    number_or(1, lines.first(None, b"worker_processes")) as u8
 }
 
-fn slots(directives: &[Directive]) -> u32
-    ensures is { result ≡ number_or 1024 (line_in directives.now (block_named directives.now (codes "http")) (codes "nchan_slots")) }
+/// The slots of an http block.
+fn slots(lines: &Lines<'_>, http: Option<usize>) -> u32
+    ensures is { result ≡ number_or 1024 (line_in lines.now http (codes "nchan_slots")) }
     ensures within { IsSlots result }
 {
-    let http = block_named(directives, b"http");
-    number_or(1_024, line_in(directives, http, b"nchan_slots"))
+    number_or(1_024, lines.first(http, b"nchan_slots"))
 }
 
 /// The configuration of directives without faults.
-pub fn config_of(alloc: Global, directives: &[Directive]) -> Result<Config, NoMemory>
+pub fn config_of(
+    alloc: Global,
+    directives: &[Directive],
+    lines: &Lines<'_>,
+) -> Result<Config, NoMemory>
+    requires { lines.now ≡ directives.now }
     ensures { IfOk result (λ c. c ≡ config_of directives.now) }
 {
     Ok(Config {
-        workers: workers(directives),
-        slots: slots(directives),
+        workers: workers(lines),
+        slots: slots(lines, block_named(directives, b"http")),
         listen: addresses(alloc, directives)?,
-        base: settings_of(directives, base_block(directives)),
-        locations: locations(alloc, directives)?,
+        base: settings_of(lines, base_block(directives)),
+        locations: locations(alloc, directives, lines)?,
     })
 }

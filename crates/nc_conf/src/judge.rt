@@ -1,16 +1,21 @@
 //! Each rule, and the first fault of a text.
-ghost use Rattle.std.specs.Prelude.{◌≡◌, ◌∷◌, [], ◌||◌, None, length, count_by, nat_lt, not, slice_get};
+ghost use Rattle.std.specs.Prelude.{◌≡◌, [], ◌||◌, Some, None, length, nat_lt, not, slice_get, IfOk};
+ghost use Rattle.nc_conf.specs.Config.{has_name};
 ghost use Rattle.std.specs.List.{list_any, flat_map};
 ghost use Rattle.std.specs.Option.{option_copied, is_some};
 ghost use Rattle.nc_conf.specs.Table.{row_of};
 ghost use Rattle.nc_conf.specs.First.{first_with, IsFirst};
 ghost use Rattle.nc_conf.specs.Faults.{kind_of, same_block, is_named, misplaced, is_like, are_enough, repeated, same_bool, too_many, miscounted, is_word, is_again, is_way, is_first_word, is_before_path, is_path_place, breaks_location, breaks, rule_of, bad_args, is_exact, path_of, has_path, is_same_location, again, fault_if, directive_faults, each_directive, has_line, has_role, is_location, nameless, unended, faults_of};
 ghost use Rattle.nc_conf.specs.Reader.{words_of, all_faults};
+ghost use Rattle.nc_conf.specs.Ways.{ways_with, refuse, KnowsWays};
 
 use crate::fault::{Fault, first_if};
+use crate::lines::Lines;
 use crate::syntax::{Close, Directive, Reading, Word};
 use crate::table::{Block, Row, Shape, row_of};
 use crate::value;
+use nc_types::NoMemory;
+use std::alloc::Global;
 
 /// The kind of the block of that number, or of what is outside of all blocks.
 fn kind_of(directives: &[Directive], within: Option<usize>) -> Option<Block>
@@ -22,23 +27,6 @@ fn kind_of(directives: &[Directive], within: Option<usize>) -> Option<Block>
     let parent = directives.get(i)?;
     let row = row_of(parent.name.text.as_slice())?;
     row.opens
-}
-
-fn same_block(a: Option<usize>, b: Option<usize>) -> bool
-    ensures { result ≡ same_block a b }
-{
-    match (a, b) {
-        (None, None) => true,
-        (Some(i), Some(j)) => i == j,
-        _ => false,
-    }
-}
-
-/// Whether a directive has this name and stands in this block.
-pub fn is_named(block: Option<usize>, name: &[u8], directive: &Directive) -> bool
-    ensures { result ≡ is_named block name.now directive.now }
-{
-    same_block(directive.within, block) && directive.name.text.as_slice() == name
 }
 
 fn misplaced(
@@ -56,24 +44,17 @@ fn misplaced(
     first_if(first, !may_stand, 4, d.name.at)
 }
 
-fn is_like(d: &Directive, e: &Directive) -> bool
-    ensures { result ≡ is_like d.now e.now }
-{
-    is_named(d.within, d.name.text.as_slice(), e)
-}
-
-fn count_like(before: &[Directive], d: &Directive) -> usize
-    ensures { result ≡ count_by (is_like d.now) before.now }
-{
-    before.iter().filter(|e| is_like(d, e)).count()
-}
-
-fn repeated(first: Option<Fault>, before: &[Directive], row: Row, d: &Directive) -> Option<Fault>
+fn repeated<'d>(
+    first: Option<Fault>,
+    before: &Lines<'d>,
+    row: Row,
+    d: &'d Directive,
+) -> Option<Fault>
     ensures { result ≡ first_with first (repeated before.now row d.now) }
 {
     let are_enough = match row.times {
         None => false,
-        Some(times) => times <= count_like(before, d),
+        Some(times) => times <= before.count(d.within, d.name.text.as_slice()),
     };
     first_if(first, are_enough, 5, d.name.at)
 }
@@ -114,16 +95,35 @@ pub fn has_word(words: &[Word], text: &[u8]) -> bool
     words.iter().any(|word| is_word(text, word))
 }
 
-fn is_again(before: &[Word], text: &[u8]) -> bool
-    ensures { result ≡ is_again before.now text.now }
-{
-    has_word(before, text)
+/// Which ways to subscribe stand among the arguments so far.
+#[derive(Clone, Copy)]
+struct Ways {
+    longpoll: bool,
+    websocket: bool,
 }
 
-fn is_way(text: &[u8]) -> bool
-    ensures { result ≡ is_way text.now }
-{
-    text == b"longpoll".as_slice() || text == b"websocket".as_slice()
+impl Ways {
+    fn with(self, word: &Word) -> Ways
+        ensures { result ≡ ways_with self word.now }
+    {
+        Ways {
+            longpoll: self.longpoll || is_word(b"longpoll", word),
+            websocket: self.websocket || is_word(b"websocket", word),
+        }
+    }
+
+    /// Whether a text is no way, or one of these.
+    fn refuse(self, text: &[u8]) -> bool
+        ensures { result ≡ refuse self text.now }
+    {
+        if text == b"longpoll".as_slice() {
+            self.longpoll
+        } else if text == b"websocket".as_slice() {
+            self.websocket
+        } else {
+            true
+        }
+    }
 }
 
 fn is_first_word(text: &[u8]) -> bool
@@ -161,7 +161,8 @@ fn breaks_location(before: &[Word], text: &[u8], later: &[Word]) -> bool
 }
 
 /// Whether an argument breaks the rule of its shape, between those before and behind it.
-fn breaks(shape: Shape, before: &[Word], text: &[u8], later: &[Word]) -> bool
+fn breaks(shape: Shape, before: &[Word], ways: Ways, text: &[u8], later: &[Word]) -> bool
+    requires { KnowsWays ways before.now }
     ensures { result ≡ breaks shape before.now text.now later.now }
 {
     match shape {
@@ -171,7 +172,7 @@ fn breaks(shape: Shape, before: &[Word], text: &[u8], later: &[Word]) -> bool
         Shape::Seconds => value::seconds(text).is_none(),
         Shape::Size => value::size(text).is_none(),
         Shape::HttpWord => text != b"http".as_slice(),
-        Shape::Ways => !is_way(text) || is_again(before, text),
+        Shape::Ways => ways.refuse(text),
         Shape::First => !is_first_word(text),
         Shape::ChannelId => !value::is_id(text),
         Shape::Path => breaks_location(before, text, later),
@@ -196,12 +197,14 @@ fn bad_arg(
     first: Option<Fault>,
     shape: Shape,
     before: &[Word],
+    ways: Ways,
     word: &Word,
     later: &[Word],
 ) -> Option<Fault>
+    requires { KnowsWays ways before.now }
     ensures { result ≡ first_with first (fault_if (breaks shape before.now word.now.text later.now) (rule_of shape) word.now.at) }
 {
-    let broken = breaks(shape, before, word.text.as_slice(), later);
+    let broken = breaks(shape, before, ways, word.text.as_slice(), later);
     first_if(first, broken, rule_of(shape), word.at)
 }
 
@@ -209,8 +212,13 @@ fn bad_args(first: Option<Fault>, shape: Shape, args: &[Word]) -> Option<Fault>
     ensures { result ≡ first_with first (bad_args shape [] args.now) }
 {
     let mut first = first;
+    let mut ways = Ways {
+        longpoll: false,
+        websocket: false,
+    };
     for (i, word) in args.iter().enumerate() {
-        first = bad_arg(first, shape, &args[..i], word, &args[i + 1..]);
+        first = bad_arg(first, shape, &args[..i], ways, word, &args[i + 1..]);
+        ways = ways.with(word);
     }
     first
 }
@@ -236,49 +244,29 @@ pub fn path_of(args: &[Word]) -> Option<&Word>
     }
 }
 
-fn has_path(text: &[u8], path: Option<&Word>) -> bool
-    ensures { result ≡ has_path text.now (option_copied path.entry) }
+fn again<'d>(first: Option<Fault>, before: &Lines<'d>, row: Row, d: &'d Directive) -> Option<Fault>
+    requires { row_of d.now.name.text ≡ Some row }
+    ensures { result ≡ first_with first (again before.now row.shape d.now) }
 {
-    match path {
-        None => false,
-        Some(word) => word.text.as_slice() == text,
-    }
-}
-
-fn is_same_location(d: &Directive, path: &[u8], e: &Directive) -> bool
-    ensures { result ≡ is_same_location d.now path.now e.now }
-{
-    let args = e.args.as_slice();
-    is_like(d, e) && is_exact(args) == is_exact(d.args.as_slice()) && has_path(path, path_of(args))
-}
-
-fn has_same_location(before: &[Directive], d: &Directive, path: &[u8]) -> bool
-    ensures { result ≡ list_any (is_same_location d.now path.now) before.now }
-{
-    before.iter().any(|e| is_same_location(d, path, e))
-}
-
-fn again(first: Option<Fault>, before: &[Directive], shape: Shape, d: &Directive) -> Option<Fault>
-    ensures { result ≡ first_with first (again before.now shape d.now) }
-{
-    let Shape::Path = shape else {
+    let Shape::Path = row.shape else {
         return first;
     };
-    match path_of(d.args.as_slice()) {
+    let args = d.args.as_slice();
+    match path_of(args) {
         None => first,
-        Some(word) => {
-            let broken = has_same_location(before, d, word.text.as_slice());
-            first_if(first, broken, 13, word.at)
+        Some(path) => {
+            let broken = before.has_location(is_exact(args), d.within, path.text.as_slice());
+            first_if(first, broken, 13, path.at)
         }
     }
 }
 
-/// The first of the faults so far and those of a directive.
-fn judge(
+/// The first of the faults so far and those of a directive, after those before it.
+fn judge<'d>(
     first: Option<Fault>,
     directives: &[Directive],
-    before: &[Directive],
-    d: &Directive,
+    before: &Lines<'d>,
+    d: &'d Directive,
 ) -> Option<Fault>
     ensures { result ≡ first_with first (directive_faults directives.now before.now d.now) }
 {
@@ -289,32 +277,42 @@ fn judge(
     let first = repeated(first, before, row, d);
     let first = miscounted(first, row, d);
     let first = bad_args(first, row.shape, d.args.as_slice());
-    again(first, before, row.shape, d)
+    again(first, before, row, d)
 }
 
-fn first_of_directives(directives: &[Directive]) -> Option<Fault>
-    ensures { result ≡ first_with None (each_directive directives.now [] directives.now) }
+/// The first fault of directives, and the directives, to be looked up by block and name.
+#[derive(Drop)]
+pub struct Judged<'d> {
+    pub first: Option<Fault>,
+    pub lines: Lines<'d>,
+}
+
+fn judge_each<'d>(alloc: Global, directives: &'d [Directive]) -> Result<Judged<'d>, NoMemory>
+    ensures first { IfOk result (λ j. j.first ≡ first_with None (each_directive directives.now [] directives.now)) }
+    ensures lines { IfOk result (λ j. j.lines ≡ directives.now) }
 {
     let mut first = None;
-    for (i, d) in directives.iter().enumerate() {
-        first = judge(first, directives, &directives[..i], d);
+    let mut lines = Lines::new(alloc);
+    for d in directives {
+        first = judge(first, directives, &lines, d);
+        lines = lines.with(d)?;
     }
-    first
+    Ok(Judged { first, lines })
 }
 
-/// Whether a directive of this name stands in a block.
-pub fn has_line(directives: &[Directive], block: usize, name: &[u8]) -> bool
-    ensures { result ≡ has_line directives.now block name.now }
+fn has_role(lines: &Lines<'_>, block: usize) -> bool
+    ensures { result ≡ has_role lines.now block }
 {
-    directives.iter().any(|e| is_named(Some(block), name, e))
+    lines.has(block, b"nchan_publisher")
+        || lines.has(block, b"nchan_subscriber")
+        || lines.has(block, b"nchan_pubsub")
 }
 
-fn has_role(directives: &[Directive], block: usize) -> bool
-    ensures { result ≡ has_role directives.now block }
+/// Whether a directive has this name.
+pub fn has_name(name: &[u8], d: &Directive) -> bool
+    ensures { result ≡ has_name name.now d.now }
 {
-    has_line(directives, block, b"nchan_publisher")
-        || has_line(directives, block, b"nchan_subscriber")
-        || has_line(directives, block, b"nchan_pubsub")
+    d.name.text.as_slice() == name
 }
 
 fn is_location(directive: Option<&Directive>) -> bool
@@ -326,25 +324,21 @@ fn is_location(directive: Option<&Directive>) -> bool
     }
 }
 
-fn nameless(first: Option<Fault>, directives: &[Directive], close: &Close) -> Option<Fault>
-    ensures { result ≡ first_with first (nameless directives.now close.now) }
+fn nameless(first: Option<Fault>, lines: &Lines<'_>, close: &Close) -> Option<Fault>
+    ensures { result ≡ first_with first (nameless lines.now close.now) }
 {
-    let broken = is_location(directives.get(close.of))
-        && has_role(directives, close.of)
-        && !has_line(directives, close.of, b"nchan_channel_id");
+    let broken = is_location(lines.get(close.of))
+        && has_role(lines, close.of)
+        && !lines.has(close.of, b"nchan_channel_id");
     first_if(first, broken, 14, close.at)
 }
 
-fn first_of_closes(
-    first: Option<Fault>,
-    directives: &[Directive],
-    closes: &[Close],
-) -> Option<Fault>
-    ensures { result ≡ first_with first (flat_map (nameless directives.now) closes.now) }
+fn first_of_closes(first: Option<Fault>, lines: &Lines<'_>, closes: &[Close]) -> Option<Fault>
+    ensures { result ≡ first_with first (flat_map (nameless lines.now) closes.now) }
 {
     let mut first = first;
     for close in closes {
-        first = nameless(first, directives, close);
+        first = nameless(first, lines, close);
     }
     first
 }
@@ -363,12 +357,17 @@ fn unended(first: Option<Fault>, len: usize, reading: &Reading) -> Option<Fault>
     first_if(first, broken, 2, len)
 }
 
-/// The first fault of a text of some bytes.
-pub fn first_fault(len: usize, reading: &Reading) -> Option<Fault>
-    ensures { IsFirst (all_faults len reading.now.syntax reading.now.bad) result }
+/// The first fault of a text of some bytes, and its directives.
+pub fn judge_all<'r>(
+    alloc: Global,
+    len: usize,
+    reading: &'r Reading,
+) -> Result<Judged<'r>, NoMemory>
+    ensures first { IfOk result (λ j. IsFirst (all_faults len reading.now.syntax reading.now.bad) j.first) }
+    ensures lines { IfOk result (λ j. j.lines ≡ reading.now.syntax.directives) }
 {
-    let directives = reading.syntax.directives();
-    let first = first_of_directives(directives);
-    let first = first_of_closes(first, directives, reading.syntax.closes());
-    unended(first, len, reading)
+    let Judged { first, lines } = judge_each(alloc, reading.syntax.directives())?;
+    let first = first_of_closes(first, &lines, reading.syntax.closes());
+    let first = unended(first, len, reading);
+    Ok(Judged { first, lines })
 }

@@ -8,11 +8,14 @@ mod config;
 mod fault;
 mod judge;
 pub mod laws;
+mod lines;
 mod read;
 mod syntax;
 mod table;
 #[cfg(test)]
 mod tests;
+#[cfg(test)]
+mod tests_tables;
 mod value;
 
 pub use read::{ConfFault, read_config};

@@ -5,7 +5,7 @@ ghost use Rattle.nc_conf.specs.declared.read.ConfFault.TheVariants.{NoMemory as 
 
 use crate::config::config_of;
 use crate::fault::Fault;
-use crate::judge::first_fault;
+use crate::judge::{Judged, judge_all};
 use crate::syntax::read_syntax;
 use nc_types::{Config, NoMemory};
 use std::alloc::Global;
@@ -35,8 +35,9 @@ pub fn read_config(alloc: Global, text: &[u8]) -> Result<Config, ConfFault>
     ensures { IsRead text.now result }
 {
     let reading = read_syntax(alloc, text)?;
-    match first_fault(text.len(), &reading) {
+    let Judged { first, lines } = judge_all(alloc, text.len(), &reading)?;
+    match first {
         Some(Fault { at, rule }) => Err(ConfFault::Rule { rule, at }),
-        None => Ok(config_of(alloc, reading.syntax.directives())?),
+        None => Ok(config_of(alloc, reading.syntax.directives(), &lines)?),
     }
 }

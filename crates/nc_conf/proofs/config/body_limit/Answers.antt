@@ -5,4 +5,4 @@ use Rattle.nc_conf.proofs.Ranges.{body_within}
 use Rattle.nc_conf.proofs.config.body_limit.Goals as goal
 
 pub returns-clause-within : goal.returns-clause-within
-returns-clause-within c = subst IsBodyLimit (sym (c.number_or.ensures ∙ ap (number_or 65536) c.inherited.ensures)) (body_within c.args.directives.now c.args.block)
+returns-clause-within c = subst IsBodyLimit (sym (c.number_or.ensures ∙ ap (number_or 65536) c.inherited.ensures)) (body_within c.args.lines.now c.args.block)

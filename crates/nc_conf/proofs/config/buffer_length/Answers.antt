@@ -5,4 +5,4 @@ use Rattle.nc_conf.proofs.Ranges.{length_within}
 use Rattle.nc_conf.proofs.config.buffer_length.Goals as goal
 
 pub returns-clause-within : goal.returns-clause-within
-returns-clause-within c = subst IsLength (sym (c.number_or.ensures ∙ ap (number_or 10) c.inherited.ensures)) (length_within c.args.directives.now c.args.block)
+returns-clause-within c = subst IsLength (sym (c.number_or.ensures ∙ ap (number_or 10) c.inherited.ensures)) (length_within c.args.lines.now c.args.block)

@@ -5,4 +5,4 @@ use Rattle.nc_conf.proofs.Ranges.{timeout_within}
 use Rattle.nc_conf.proofs.config.message_timeout.Goals as goal
 
 pub returns-clause-within : goal.returns-clause-within
-returns-clause-within c = subst IsSeconds (sym (c.number_or.ensures ∙ ap (number_or 3600) c.inherited.ensures)) (timeout_within c.args.directives.now c.args.block)
+returns-clause-within c = subst IsSeconds (sym (c.number_or.ensures ∙ ap (number_or 3600) c.inherited.ensures)) (timeout_within c.args.lines.now c.args.block)

@@ -6,8 +6,8 @@ use Rattle.nc_conf.proofs.config.workers.Goals as goal
 
 pub overflow_cast-result : goal.overflow_cast-result
 overflow_cast-result c =
-    let few = subst IsWorkers (sym (c.number_or.ensures ∙ ap (number_or 1) c.line_in.ensures)) (workers_within c.args.directives.now) in
+    let few = subst IsWorkers (sym (c.number_or.ensures ∙ ap (number_or 1) c.first.ensures)) (workers_within c.args.lines.now) in
     omega (arith, few.1)
 
 pub returns-clause-within : goal.returns-clause-within
-returns-clause-within c = subst IsWorkers (sym (c.number_or.ensures ∙ ap (number_or 1) c.line_in.ensures)) (workers_within c.args.directives.now)
+returns-clause-within c = subst IsWorkers (sym (c.number_or.ensures ∙ ap (number_or 1) c.first.ensures)) (workers_within c.args.lines.now)

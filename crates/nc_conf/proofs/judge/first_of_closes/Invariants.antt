@@ -5,4 +5,4 @@ use Rattle.nc_conf.specs.Faults.{nameless}
 use Rattle.nc_conf.proofs.judge.first_of_closes.Given as goal
 
 abbrev pub invariant-loop-close : goal.invariant-loop-close
-invariant-loop-close l = first_with l.fn.first (flat_map (nameless l.directives) l.closes) ≡ first_with l.first (flat_map (nameless l.directives) (drop l.close-index l.closes))
+invariant-loop-close l = first_with l.fn.first (flat_map (nameless l.lines) l.closes) ≡ first_with l.first (flat_map (nameless l.lines) (drop l.close-index l.closes))
