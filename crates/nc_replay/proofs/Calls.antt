@@ -5,7 +5,7 @@ use Rattle.std.proofs.lemmas.List.{append-nil}
 use Rattle.nc_types.specs.Id.{Id, IsPast}
 use Rattle.nc_types.specs.Cursor.{cursor_of}
 use Rattle.nc_types.specs.declared.start.Start.{Start}
-use Rattle.nc_journal.specs.Stamp.{next_id}
+use Rattle.nc_journal.specs.Stamp.{next_id, expiry}
 use Rattle.nc_journal.specs.declared.event.Event.{Event}
 use Rattle.nc_journal.specs.declared.event.Event.TheVariants.{Looked, Quiet}
 use Rattle.nc_journal.specs.declared.word.LeftCause.TheVariants.{Length, Expired}
@@ -21,7 +21,7 @@ use Rattle.nc_replay.proofs.Channels.{channel-name}
 use Rattle.nc_replay.proofs.Leaves.{all-dropped}
 
 -- a stamp is past each message that stays
-pub stamp-past : (c : List ℕ) (s : State) (x y z : Channel) (id : Id) → Fits s → x ≡ channel_of c s.channels → y ≡ touched s.clock x → z ≡ shortened y → id ≡ next_id (max s.clock s.floor) x.last → IsPastAll id z.buffer
+pub stamp-past : (c : List ℕ) (s : State) (x y z : Channel) (id : Id) → Fits s → x ≡ channel_of c s.channels → y ≡ touched s.clock x → z ≡ shortened s.base.length y → id ≡ next_id (max s.clock s.floor) x.last → IsPastAll id z.buffer
 stamp-past c s x y z id fits here touch short is =
     rw (short, touch, is, here)
     (all-dropped (λ e. IsPast stamp e.id) _ _
@@ -34,12 +34,12 @@ stamp-past c s x y z id fits here touch short is =
     stamp : Id
     stamp = next_id (max s.clock s.floor) last
 
-pub post-told : (c body : List ℕ) (s : State) (x y z : Channel) (id : Id) (none left short stored all : List Event)
-    → x ≡ channel_of c s.channels → y ≡ touched s.clock x → z ≡ shortened y → id ≡ next_id (max s.clock s.floor) x.last
-    → none ≡ [] → left ≡ none ++ channel_left s.clock x → short ≡ left ++ map (entry_left y.name Length) (surplus_of 10 y.buffer)
-    → stored ≡ short ++ stored_events id (s.clock + 3600) s.posts body z → all ≡ stored ++ Quiet ∷ [] → all ≡ post_events c body s
-post-told c body s x y z id none left short stored all here touch shorter is empty one two three four =
-    rw (four, three, two, one, empty, shorter, touch, is, here) (simp (append_assoc, channel-name c s.channels))
+pub post-told : (c body : List ℕ) (s : State) (x y z : Channel) (id : Id) (expires : ℕ) (none left short stored all : List Event)
+    → x ≡ channel_of c s.channels → y ≡ touched s.clock x → z ≡ shortened s.base.length y → id ≡ next_id (max s.clock s.floor) x.last → expires ≡ expiry s.clock s.base.timeout
+    → none ≡ [] → left ≡ none ++ channel_left s.clock x → short ≡ left ++ map (entry_left y.name Length) (surplus_of s.base.length y.buffer)
+    → stored ≡ short ++ stored_events s.base.length id expires s.posts body z → all ≡ stored ++ Quiet ∷ [] → all ≡ post_events c body s
+post-told c body s x y z id expires none left short stored all here touch shorter is until empty one two three four =
+    rw (four, three, two, one, empty, shorter, touch, is, until, here) (simp (append_assoc, channel-name c s.channels))
 
 left-named : (c : List ℕ) (now : ℕ) (x : Channel) → x.name ≡ c → channel_left now x ≡ map (entry_left c Expired) (expired_of now x.buffer)
 left-named c now x is = ap (λ n. map (entry_left n Expired) (expired_of now x.buffer)) is

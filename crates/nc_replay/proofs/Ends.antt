@@ -1,26 +1,21 @@
 -- How the replay of a whole script ends.
-use Rattle.std.proofs.Common.{◌≡◌, inl, inr, ℕ, ◌==◌, Bool, true, false, List, [], ◌∷◌, refl, sym, ◌∙◌, subst, ap, Option, Some, None, Result, Ok, Err, true≢false}
-use Rattle.std.specs.Prelude.{IsTrue, ◌↔◌, IfOk, IfNone, IfSome}
-use Rattle.std.specs.List.{after_first}
+use Rattle.std.proofs.Common.{◌≡◌, inl, inr, ℕ, List, [], refl, subst, Option, Some, None, Result, Ok, Err, arith}
+use Rattle.std.specs.Prelude.{IfOk, IfNone, IfSome}
+use Rattle.nc_types.specs.Settings.{SettingsAt}
 use Rattle.nc_journal.specs.Text.{text_of}
 use Rattle.nc_replay.specs.declared.fault.Fault.{Fault}
-use Rattle.nc_replay.specs.declared.fault.Misconfigured.{Misconfigured as ConfigFault}
-use Rattle.nc_replay.specs.Script.{lines_of, rule_line, HasRule, IsMisconfigured}
+use Rattle.nc_replay.specs.Script.{lines_of, IsConfigured}
+use Rattle.nc_replay.specs.Plan.{IsPlan}
+use Rattle.nc_replay.specs.Told.{Leads}
 use Rattle.nc_replay.specs.Input.{Adds, AddsPrefix}
 use Rattle.nc_replay.specs.Run.{MakesAll, MakesUntil, MakesSome}
-use Rattle.nc_replay.specs.Top.{fault_text, misconfigured_text, ReplaysText, RefusesText, StopsAt, CutsOffText, CutsOffSome}
-use Rattle.nc_replay.proofs.Parted.{has-rule}
+use Rattle.nc_replay.specs.Top.{fault_text, ReplaysText, RefusesText, StopsAt, CutsOffText, CutsOffSome}
+use Rattle.nc_replay.proofs.Good.{good-lawful, good-start}
 use Rattle.nc_replay.proofs.Loop.{adds-nothing, adds-more, adds-prefix}
 
-pub not-by-test : {P : Type 0} (b : Bool) → IsTrue b ↔ P → b ≡ false → P → ⊥
-not-by-test b both is p = true≢false (sym (both.1 p) ∙ is)
-
 -- nothing is a prefix
-adds-none : (text : List ℕ) (taken : Option (List ℕ)) → AddsPrefix text taken taken
+pub adds-none : (text : List ℕ) (taken : Option (List ℕ)) → AddsPrefix text taken taken
 adds-none text taken = (text, record { piece = []; cut = refl; added = adds-nothing taken })
-
-pub by-test : {P : Type 0} (b : Bool) → IsTrue b ↔ P → b ≡ true → P
-by-test b both is = both.0 is
 
 pub ok-none : {X E A B : Type 0} (r : Result (Option X) E) → (A → B) → IfOk r (λ o. IfNone o A) → IfOk r (λ o. IfNone o B)
 ok-none (Ok None) f h = f h
@@ -32,69 +27,80 @@ ok-some A B (Ok None) f h = tt
 ok-some A B (Ok (Some x)) f h = f x h
 ok-some A B (Err e) f h = tt
 
-pub replays-all : (text rest : List ℕ) (old new : Option (List ℕ)) → HasRule text → rest ≡ after_first (λ x. x == 10) text → MakesAll (lines_of rest) old new → ReplaysText text old new
-replays-all text rest old new has is makes = record {
+pub replays-all : (text lines : List ℕ) (base : SettingsAt) (number : ℕ) (old new : Option (List ℕ)) → IsPlan text base lines number → MakesAll base (lines_of lines) old new → ReplaysText text old new
+replays-all text lines base number old new plan makes = record {
   h = makes.h;
-  passes = record { made = lines_of rest; lines = has-rule text has ∙ ap (λ (l : List ℕ). rule_line ∷ lines_of l) (sym is); leads = makes.leads };
-  lawful = makes.lawful;
-  written = makes.written;
-}
-
-pub stops-later : (text rest : List ℕ) (old new : Option (List ℕ)) (fault : Fault) → HasRule text → rest ≡ after_first (λ x. x == 10) text → MakesUntil (lines_of rest) old new fault → StopsAt text old new fault
-stops-later text rest old new fault has is makes = record {
-  h = makes.h;
-  fails = record {
-    made = makes.made;
-    bad = makes.bad;
-    rest = makes.rest;
-    lines = has-rule text has ∙ ap (λ (l : List ℕ). rule_line ∷ lines_of l) (sym is) ∙ ap (λ (l : List (List ℕ)). rule_line ∷ l) makes.cut;
-    leads = makes.leads;
-    breaks = makes.breaks;
-    counted = makes.counted;
+  passes = record {
+    before = plan.before;
+    made = lines_of lines;
+    config = plan.config;
+    configured = plan.configured;
+    leads = subst (λ (b : SettingsAt). Leads b [] (lines_of lines) makes.h) plan.settings makes.leads;
   };
   lawful = makes.lawful;
   written = makes.written;
 }
 
-pub cuts-off : (text rest : List ℕ) (old new : Option (List ℕ)) → HasRule text → rest ≡ after_first (λ x. x == 10) text → MakesSome (lines_of rest) old new → CutsOffText text old new
-cuts-off text rest old new has is makes = record {
+pub stops-later : (text lines : List ℕ) (base : SettingsAt) (number : ℕ) (old new : Option (List ℕ)) (fault : Fault) → IsPlan text base lines number → MakesUntil base number (lines_of lines) old new fault → StopsAt text old new fault
+stops-later text lines base number old new fault plan makes = record {
+  h = makes.h;
+  fails = record {
+    before = plan.before;
+    made = makes.made;
+    bad = makes.bad;
+    rest = makes.rest;
+    config = plan.config;
+    configured = subst (λ (l : List (List ℕ)). IsConfigured text plan.before l plan.config) makes.cut plan.configured;
+    leads = subst (λ (b : SettingsAt). Leads b [] makes.made makes.h) plan.settings makes.leads;
+    breaks = makes.breaks;
+    counted = omega (arith, makes.counted, plan.counted);
+  };
+  lawful = makes.lawful;
+  written = makes.written;
+}
+
+pub cuts-off : (text lines : List ℕ) (base : SettingsAt) (number : ℕ) (old new : Option (List ℕ)) → IsPlan text base lines number → MakesSome base (lines_of lines) old new → CutsOffText text old new
+cuts-off text lines base number old new plan makes = record {
   h = makes.h;
   begins = inr (record {
+    before = plan.before;
     made = makes.made;
     rest = makes.rest;
-    lines = has-rule text has ∙ ap (λ (l : List ℕ). rule_line ∷ lines_of l) (sym is) ∙ ap (λ (l : List (List ℕ)). rule_line ∷ l) makes.cut;
-    leads = makes.leads;
+    config = plan.config;
+    configured = subst (λ (l : List (List ℕ)). IsConfigured text plan.before l plan.config) makes.cut plan.configured;
+    leads = subst (λ (b : SettingsAt). Leads b [] makes.made makes.h) plan.settings makes.leads;
   });
   lawful = makes.lawful;
   written = makes.written;
 }
 
+-- nothing was written yet
+pub nothing-written : (text : List ℕ) (old : Option (List ℕ)) → CutsOffSome text old old
+nothing-written text old = inl (record {
+  h = [];
+  begins = inl refl;
+  lawful = good-lawful [] good-start;
+  written = adds-none [] old;
+})
+
 -- the fault of a line is written in part, and whole
-pub fault-cut : (text : List ℕ) (old now new : Option (List ℕ)) (fault : Fault) (items slice : List ℕ) → items ≡ fault_text fault → slice ≡ items → StopsAt text old now fault → AddsPrefix slice now new → CutsOffSome text old new
-fault-cut text old now new fault items slice is same stops written = inr (inl (record {
+pub fault-cut : (text : List ℕ) (old now new : Option (List ℕ)) (fault : Fault) → StopsAt text old now fault → AddsPrefix (fault_text fault) now new → CutsOffSome text old new
+fault-cut text old now new fault stops written = inr (inl (record {
   h = stops.h;
   fault = fault;
   fails = stops.fails;
   lawful = stops.lawful;
-  written = adds-prefix (text_of stops.h) (fault_text fault) old now new stops.written (subst (λ (l : List ℕ). AddsPrefix l now new) (same ∙ is) written);
+  written = adds-prefix (text_of stops.h) (fault_text fault) old now new stops.written written;
 }))
 
-pub fault-written : (text : List ℕ) (old now new : Option (List ℕ)) (fault : Fault) (items slice : List ℕ) → items ≡ fault_text fault → slice ≡ items → StopsAt text old now fault → Adds slice now new → RefusesText text old new
-fault-written text old now new fault items slice is same stops written = record {
+pub fault-written : (text : List ℕ) (old now new : Option (List ℕ)) (fault : Fault) → StopsAt text old now fault → Adds (fault_text fault) now new → RefusesText text old new
+fault-written text old now new fault stops written = record {
   h = stops.h;
   fault = fault;
   fails = stops.fails;
   lawful = stops.lawful;
-  written = adds-more (text_of stops.h) (fault_text fault) old now new stops.written (subst (λ (l : List ℕ). Adds l now new) (same ∙ is) written);
+  written = adds-more (text_of stops.h) (fault_text fault) old now new stops.written written;
 }
-
--- nothing is written while there is no memory for the fault before the lines
-pub misconfigured-unwritten : (text : List ℕ) (old : Option (List ℕ)) (fault : ConfigFault) → IsMisconfigured text fault.rule fault.at → CutsOffSome text old old
-misconfigured-unwritten text old fault misconfigured = inr (inr (record {
-  fault = fault;
-  misconfigured = misconfigured;
-  written = adds-none (misconfigured_text fault) old;
-}))
 
 pub some-holds : {X : Type 0} (P : X → Type 0) (o : Option X) (x : X) → IfSome o P → o ≡ Some x → P x
 some-holds P None x h is = absurd (cc)

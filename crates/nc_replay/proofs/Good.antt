@@ -1,5 +1,5 @@
 -- A history whose messages go each to subscribers of one channel, and how it goes on.
-use Rattle.std.proofs.Common.{◌≡◌, ◌⊎◌, inl, inr, ℕ, ℤ, zero, suc, ◌<◌, Bool, true, false, cond, ◌==◌, ◌||◌, ◌&&◌, List, [], ◌∷◌, ◌++◌, length, refl, sym, ◌∙◌, subst, arith, Option, Some, slice_get, slice_set, negsuc, true≢false}
+use Rattle.std.proofs.Common.{◌≡◌, ◌⊎◌, inl, inr, ℕ, ℤ, zero, suc, ◌<◌, Bool, true, false, cond, not, ◌==◌, ◌-◌, ◌||◌, ◌&&◌, List, [], ◌∷◌, ◌++◌, length, refl, sym, subst, arith, Option, Some, slice_get, slice_set, negsuc, true≢false}
 use Rattle.std.specs.List.{AllByRecursion}
 use Rattle.std.proofs.lemmas.Bool.{cond_both}
 use Rattle.nc_types.specs.Id.{Id, IsPast, id_eq}
@@ -44,9 +44,8 @@ abbrev pub SentToOneAt : List Event → Event → List Event → Type 0
 SentToOneAt newer (Sent w k i c id cur looks) older = SentToOne newer older w k i c id cur looks
 SentToOneAt newer _ older = Unit {0}
 
--- what leaves was published, and everything that is stored is kept
+-- what leaves was published
 abbrev pub Keeps : List Event → Event → Type 0
-Keeps h (Stored w c id slot len exp kept members from r ct body) = kept ≡ true
 Keeps h (Left w c id slot cause) = HasId (published c h) id
 Keeps h _ = Unit {0}
 
@@ -82,10 +81,15 @@ or-true : (a b : Bool) → (a || b) ≡ true → (a ≡ true) ⊎ (b ≡ true)
 or-true true b is = inl refl
 or-true false b is = inr is
 
--- what an event lets go was published
-lets-go-published : (c : List ℕ) (id : Id) (e : Event) (h : List Event) → Keeps h e → lets_go c id e ≡ true → HasId (published c h) id
-lets-go-published c id (Stored w d m slot len exp kept members from r ct body) h keeps is = absurd (true≢false (sym is ∙ rw keeps refl))
-lets-go-published c id (Left w d m slot cause) h keeps is = by_name (name_eq d c) refl is
+-- what an event lets go was published, or the event stores it
+lets-go-published : (c : List ℕ) (id : Id) (e : Event) (h : List Event) → Keeps h e → lets_go c id e ≡ true → HasId (published c h ++ published c (e ∷ [])) id
+lets-go-published c id (Stored w d m slot len exp kept members from r ct body) h keeps is = by_parts kept (name_eq d c) is
+  where
+    by_parts : (kept same : Bool) → (not kept && (same && id_eq m id)) ≡ true → HasId (published c h ++ cond same (message_of m slot exp ct body ∷ []) []) id
+    by_parts true same is = absurd (true≢false (sym is))
+    by_parts false true is = has-append-right (published c h) (message_of m slot exp ct body ∷ []) id (inl (id_eq-same m id is))
+    by_parts false false is = absurd (true≢false (sym is))
+lets-go-published c id (Left w d m slot cause) h keeps is = has-append-left (published c h) [] id (by_name (name_eq d c) refl is)
   where
     by_name : (b : Bool) → name_eq d c ≡ b → (b && id_eq m id) ≡ true → HasId (published c h) id
     by_name true same is = subst (HasId (published c h)) (id_eq-same m id is) (subst (λ n. HasId (published n h) m) (same_text d c (sym same)) keeps)
@@ -94,11 +98,11 @@ lets-go-published c id e h keeps is = absurd (true≢false (sym is))
 
 gone-published : (c : List ℕ) (id : Id) (e : Event) (h : List Event) → Keeps h e → (is_gone c id h ≡ true → HasId (published c h) id) → is_gone c id (e ∷ h) ≡ true → HasId (published c (e ∷ h)) id
 gone-published c id e h keeps before is =
-    subst (λ ms. HasId ms id) (sym (published-push c e h)) (has-append-left (published c h) (published c (e ∷ [])) id (by_either (or-true (lets_go c id e) (is_gone c id h) is)))
+    subst (λ ms. HasId ms id) (sym (published-push c e h)) (by_either (or-true (lets_go c id e) (is_gone c id h) is))
   where
-    by_either : (lets_go c id e ≡ true) ⊎ (is_gone c id h ≡ true) → HasId (published c h) id
+    by_either : (lets_go c id e ≡ true) ⊎ (is_gone c id h ≡ true) → HasId (published c h ++ published c (e ∷ [])) id
     by_either (inl now) = lets-go-published c id e h keeps now
-    by_either (inr earlier) = before earlier
+    by_either (inr earlier) = has-append-left (published c h) (published c (e ∷ [])) id (before earlier)
 
 -- the sent message of a channel was published before
 sent-published : (newer older : List Event) (w k i : ℕ) (c : List ℕ) (id : Id) (cur : CursorAt) (looks : List ℕ) → SentToOne newer older w k i c id cur looks → HasId (published c older) id
@@ -165,32 +169,32 @@ good-turn P Q h e good next turns = record {
 pub good-push : (h : List Event) (e : Event) → IsGood h → IsNext h e → IsGood (e ∷ h)
 good-push h e good next = good-turn LeftAt LeftAt h e good next (λ newer x older is at. left-more e newer x older at)
 
--- a message leaves by length as room is made for one that is to be stored next on channel c
-abbrev pub Clearing : List ℕ → List Event → Event → List Event → Type 0
-Clearing c newer (Left w d id slot Length) older = (w ≡ 0) × (d ≡ c) × IsFirst (buffer d older) id slot × (9 < length (buffer d older)) × AllByRecursion MakesWay (own w newer)
-Clearing c newer _ older = ⊥
+-- a message leaves by length as room is made for one of length len that is to be stored next on channel c
+abbrev pub Clearing : List ℕ → ℕ → List Event → Event → List Event → Type 0
+Clearing c len newer (Left w d id slot Length) older = (w ≡ 0) × (d ≡ c) × IsFirst (buffer d older) id slot × (len - 1 < length (buffer d older)) × AllByRecursion MakesWay (own w newer)
+Clearing c len newer _ older = ⊥
 
 -- a message left by the rule, or room is made
-abbrev pub LeavesOrClears : List ℕ → List Event → Event → List Event → Type 0
-LeavesOrClears c newer x older = LeftAt newer x older ⊎ Clearing c newer x older
+abbrev pub LeavesOrClears : List ℕ → ℕ → List Event → Event → List Event → Type 0
+LeavesOrClears c len newer x older = LeftAt newer x older ⊎ Clearing c len newer x older
 
-clearing-more : (c : List ℕ) (id : Id) (slot : ℕ) (newer : List Event) (x : Event) (older : List Event) → Clearing c newer x older → Clearing c (Left 0 c id slot Length ∷ newer) x older
-clearing-more c id slot newer (Left w d m place Length) older at = (at.0, at.1, at.2, at.3, cond_both (w == 0) (Left 0 c id slot Length ∷ own w newer) (own w newer) (AllByRecursion MakesWay) (λ _. (tt, at.4)) (λ _. at.4))
-clearing-more c id slot newer x older at = absurd at
+clearing-more : (c : List ℕ) (len : ℕ) (id : Id) (slot : ℕ) (newer : List Event) (x : Event) (older : List Event) → Clearing c len newer x older → Clearing c len (Left 0 c id slot Length ∷ newer) x older
+clearing-more c len id slot newer (Left w d m place Length) older at = (at.0, at.1, at.2, at.3, cond_both (w == 0) (Left 0 c id slot Length ∷ own w newer) (own w newer) (AllByRecursion MakesWay) (λ _. (tt, at.4)) (λ _. at.4))
+clearing-more c len id slot newer x older at = absurd at
 
-pub clears-more : (c : List ℕ) (id : Id) (slot : ℕ) (newer : List Event) (x : Event) (older : List Event) → LeavesOrClears c newer x older → LeavesOrClears c (Left 0 c id slot Length ∷ newer) x older
-clears-more c id slot newer x older (inl at) = inl (left-more (Left 0 c id slot Length) newer x older at)
-clears-more c id slot newer x older (inr at) = inr (clearing-more c id slot newer x older at)
+pub clears-more : (c : List ℕ) (len : ℕ) (id : Id) (slot : ℕ) (newer : List Event) (x : Event) (older : List Event) → LeavesOrClears c len newer x older → LeavesOrClears c len (Left 0 c id slot Length ∷ newer) x older
+clears-more c len id slot newer x older (inl at) = inl (left-more (Left 0 c id slot Length) newer x older at)
+clears-more c len id slot newer x older (inr at) = inr (clearing-more c len id slot newer x older at)
 
 -- once the message is stored that room was made for, those that made it have left by the rule
-cleared : (c : List ℕ) (id : Id) (slot exp : ℕ) (kept : Bool) (members from r : ℕ) (ct : Option (List ℕ)) (body : List ℕ) (newer : List Event) (x : Event) (older : List Event) → Clearing c newer x older → LeftAt (Stored 0 c id slot 10 exp kept members from r ct body ∷ newer) x older
-cleared c id slot exp kept members from r ct body newer (Left w d m place Length) older at = (
+cleared : (c : List ℕ) (len : ℕ) (id : Id) (slot exp : ℕ) (kept : Bool) (members from r : ℕ) (ct : Option (List ℕ)) (body : List ℕ) (newer : List Event) (x : Event) (older : List Event) → Clearing c len newer x older → LeftAt (Stored 0 c id slot len exp kept members from r ct body ∷ newer) x older
+cleared c len id slot exp kept members from r ct body newer (Left w d m place Length) older at = (
   at.2,
   record {
     after = [];
     id = id;
     slot = slot;
-    len = 10;
+    len = len;
     exp = exp;
     kept = kept;
     members = members;
@@ -204,22 +208,22 @@ cleared c id slot exp kept members from r ct body newer (Left w d m place Length
     full = at.3;
   },
 )
-cleared c id slot exp kept members from r ct body newer x older at = absurd at
+cleared c len id slot exp kept members from r ct body newer x older at = absurd at
 
-pub left-cleared : (c : List ℕ) (id : Id) (slot exp : ℕ) (kept : Bool) (members from r : ℕ) (ct : Option (List ℕ)) (body : List ℕ) (newer : List Event) (x : Event) (older : List Event) → LeavesOrClears c newer x older → LeftAt (Stored 0 c id slot 10 exp kept members from r ct body ∷ newer) x older
-left-cleared c id slot exp kept members from r ct body newer x older (inl at) = left-more (Stored 0 c id slot 10 exp kept members from r ct body) newer x older at
-left-cleared c id slot exp kept members from r ct body newer x older (inr at) = cleared c id slot exp kept members from r ct body newer x older at
+pub left-cleared : (c : List ℕ) (len : ℕ) (id : Id) (slot exp : ℕ) (kept : Bool) (members from r : ℕ) (ct : Option (List ℕ)) (body : List ℕ) (newer : List Event) (x : Event) (older : List Event) → LeavesOrClears c len newer x older → LeftAt (Stored 0 c id slot len exp kept members from r ct body ∷ newer) x older
+left-cleared c len id slot exp kept members from r ct body newer x older (inl at) = left-more (Stored 0 c id slot len exp kept members from r ct body) newer x older at
+left-cleared c len id slot exp kept members from r ct body newer x older (inr at) = cleared c len id slot exp kept members from r ct body newer x older at
 
 -- a good history is good but for what clears
-pub good-clears : (c : List ℕ) (h : List Event) → IsGood h → IsGoodBut (LeavesOrClears c) h
-good-clears c h good = record {
+pub good-clears : (c : List ℕ) (len : ℕ) (h : List Event) → IsGood h → IsGoodBut (LeavesOrClears c len) h
+good-clears c len h good = record {
   stamped = good.stamped;
   standing = good.standing;
   sent = good.sent;
   started = good.started;
   quiet = good.quiet;
   gone = good.gone;
-  left = cut-weaker LeftAt (LeavesOrClears c) h (λ newer x older is at. inl at) good.left;
+  left = cut-weaker LeftAt (LeavesOrClears c len) h (λ newer x older is at. inl at) good.left;
   finds = good.finds;
 }
 

@@ -15,3 +15,6 @@ pub mod Said
 pub mod Loop
 pub mod Parted
 pub mod Ends
+mod Verdicts
+mod OneFront
+mod Always

@@ -1,12 +1,14 @@
 -- What is known between two lines of a script while they are made.
-use Rattle.std.proofs.Common.{◌≡◌, ℕ, ◌+◌, ◌<◌, ◌≤◌, Bool, true, false, cond, ◌==◌, ◌||◌, List, [], ◌∷◌, ◌++◌, length, map, refl, sym, ◌∙◌, subst, ap, arith, Option, Some, None, Result, Ok, Err, append_assoc, length-append}
+use Rattle.std.proofs.Common.{◌≡◌, ℕ, ◌+◌, ◌<◌, ◌≤◌, Bool, true, false, cond, not, ◌==◌, ◌||◌, List, [], ◌∷◌, ◌++◌, length, map, refl, sym, ◌∙◌, subst, ap, arith, Option, Some, None, Result, Ok, Err, append_assoc, length-append}
 use Rattle.std.specs.Prelude.{OnErr}
 use Rattle.std.specs.List.{flat_map}
 use Rattle.std.proofs.lemmas.List.{append-nil}
 use Rattle.std.proofs.lemmas.List.Folds.{list_any-append}
 use Rattle.nc_types.specs.Id.{Id, is_past}
+use Rattle.nc_types.specs.Settings.{SettingsAt}
 use Rattle.nc_journal.specs.declared.event.Event.{Event}
 use Rattle.nc_journal.specs.History.{own, onto}
+use Rattle.nc_journal.specs.Stamp.{expiry}
 use Rattle.nc_journal.specs.Standing.{is_subscribed}
 use Rattle.nc_journal.specs.Text.{text_of, lines_text}
 use Rattle.nc_journal.specs.declared.event.Event.TheVariants.{Stored, Looked, Quiet}
@@ -32,15 +34,16 @@ use Rattle.nc_replay.proofs.Stand.{StandsFor, stands-start}
 use Rattle.nc_replay.proofs.Step.{HasCome, IsWithin, makes-line, come-start, come-fits}
 
 -- between two lines: what was made of all lines, and what stands behind them
-pub record Made (first now : Option (List ℕ)) (all : List (List ℕ)) (s : State) (used : List ℕ) (number : ℕ) (rest : List ℕ) (most : ℕ) : Type 0 where
+pub record Made (base : SettingsAt) (before : ℕ) (first now : Option (List ℕ)) (all : List (List ℕ)) (s : State) (used : List ℕ) (number : ℕ) (rest : List ℕ) (most : ℕ) : Type 0 where
   pub h : List Event
   pub made : List (List ℕ)
   pub cut : all ≡ made ++ lines_of rest
-  pub leads : Leads [] made h
+  pub leads : Leads base [] made h
+  pub settings : s.base ≡ base
   pub stands : StandsFor s h
   pub come : HasCome s (length made)
   pub among : (k : ℕ) → is_among used k ≡ is_subscribed k (own 0 h)
-  pub counted : number ≡ length made + 2
+  pub counted : number ≡ before + length made + 1
   pub room : length made + length rest ≤ most
   pub written : Adds (text_of h) first now
 
@@ -67,11 +70,11 @@ pub adds-whole : (text : List ℕ) (first now : Option (List ℕ)) → Adds text
 adds-whole text first now h = ([], record { piece = text; cut = sym (append-nil text); added = h })
 
 -- one more line is made
-leads-more : (h : List Event) (made : List (List ℕ)) (after : List Event) (text : List ℕ) (line : Line) (es : List Event) → Leads h made after → (line_after after text).Says line → Tells after line es → Leads h (made ++ text ∷ []) (onto es after)
-leads-more h [] after text line es leads says tells =
-    (line, es, subst (λ (l : List Event). (line_after l text).Says line) leads says, subst (λ (l : List Event). Tells l line es) leads tells, ap (onto es) leads)
-leads-more h (first ∷ made) after text line es leads says tells =
-    (leads.0, leads.1, leads.2, leads.3, leads-more (onto leads.1 h) made after text line es leads.4 says tells)
+leads-more : (base : SettingsAt) (h : List Event) (made : List (List ℕ)) (after : List Event) (text : List ℕ) (line : Line) (es : List Event) → Leads base h made after → (line_after after text).Says line → Tells base after line es → Leads base h (made ++ text ∷ []) (onto es after)
+leads-more base h [] after text line es leads says tells =
+    (line, es, subst (λ (l : List Event). (line_after l text).Says line) leads says, subst (λ (l : List Event). Tells base l line es) leads tells, ap (onto es) leads)
+leads-more base h (first ∷ made) after text line es leads says tells =
+    (leads.0, leads.1, leads.2, leads.3, leads-more base (onto leads.1 h) made after text line es leads.4 says tells)
 
 none-subscribed-cond : (k n : ℕ) (c : List ℕ) (id : Id) (cur : CursorAt) (look : ℕ) (h : List Event) (b : Bool) → is_subscribed k (own 0 (onto (cond b (sends n c id cur look) []) h)) ≡ is_subscribed k (own 0 h)
 none-subscribed-cond k n c id cur look h true = refl
@@ -119,15 +122,15 @@ used-after-line (Post w c body) s used h within is k =
     let channel = channel_of c s.channels in
     let staying = staying_of s.clock channel.buffer in
     let left = map (entry_left c Expired) (expired_of s.clock channel.buffer) in
-    let room = map (entry_left c Length) (surplus_of 10 staying) in
-    let stored = Stored 0 c id 0 10 (s.clock + 3600) true (length channel.waiting) 0 s.posts None body in
+    let room = map (entry_left c Length) (surplus_of s.base.length staying) in
+    let stored = Stored 0 c id 0 s.base.length (expiry s.clock s.base.timeout) (not (s.base.length == 0)) (length channel.waiting) 0 s.posts None body in
     let sent = flat_map (sends_waiting c id) channel.waiting in
     is k ∙ sym
     (ap (λ (l : List Event). is_subscribed k (own 0 l)) (onto-append (left ++ room ++ stored ∷ sent) (Quiet ∷ []) h)
     ∙ ap (λ (l : List Event). is_subscribed k (own 0 l)) (onto-append (left ++ room) (stored ∷ sent) h)
     ∙ none-subscribed-sends k c id channel.waiting (stored ∷ onto (left ++ room) h)
     ∙ ap (λ (l : List Event). is_subscribed k (own 0 l)) (onto-append left room h)
-    ∙ none-subscribed-left k c Length (surplus_of 10 staying) (onto left h)
+    ∙ none-subscribed-left k c Length (surplus_of s.base.length staying) (onto left h)
     ∙ none-subscribed-left k c Expired (expired_of s.clock channel.buffer) h)
 used-after-line (Poll w n [] begin) s used h within is k = absurd within
 used-after-line (Poll w n (c ∷ cs) begin) s used h within is k =
@@ -143,38 +146,39 @@ used-after-line (Poll w n (c ∷ cs) begin) s used h within is k =
     ∙ subscribed-found k n c s.polls found (look ∷ onto left begun)
     ∙ none-subscribed-left k c Expired (expired_of s.clock channel.buffer) begun)
 
-made-start : (first : Option (List ℕ)) (text : List ℕ) → Made first first (lines_of text) start [] 2 text (length text)
-made-start first text = record {
+made-start : (base : SettingsAt) (before : ℕ) (first : Option (List ℕ)) (text : List ℕ) → Made base before first first (lines_of text) (start base) [] (before + 1) text (length text)
+made-start base before first text = record {
   h = [];
   made = [];
   cut = refl;
   leads = refl;
-  stands = stands-start;
-  come = come-start;
+  stands = stands-start base;
+  come = come-start base;
+  settings = refl;
   among = λ k. refl;
-  counted = refl;
+  counted = omega arith;
   room = omega arith;
   written = adds-nothing first;
 }
 
 -- the same by equal states and numbers
-pub made-as : (first now : Option (List ℕ)) (all : List (List ℕ)) (s t : State) (used later : List ℕ) (number : ℕ) (rest : List ℕ) (most : ℕ) → t ≡ s → later ≡ used → Made first now all s used number rest most → Made first now all t later number rest most
-made-as first now all s t used later number rest most is are made = rw (is, are) made
+pub made-as : (base : SettingsAt) (before : ℕ) (first now : Option (List ℕ)) (all : List (List ℕ)) (s t : State) (used later : List ℕ) (number : ℕ) (rest : List ℕ) (most : ℕ) → t ≡ s → later ≡ used → Made base before first now all s used number rest most → Made base before first now all t later number rest most
+made-as base before first now all s t used later number rest most is are made = rw (is, are) made
 
-pub made-begins : (first : Option (List ℕ)) (text : List ℕ) (s : State) (used : List ℕ) → s ≡ start → used ≡ [] → Made first first (lines_of text) s used 2 text (length text)
-made-begins first text s used is are = rw (is, are) (made-start first text)
+pub made-begins : (base : SettingsAt) (before : ℕ) (first : Option (List ℕ)) (text : List ℕ) (s : State) (used : List ℕ) → s ≡ start base → used ≡ [] → Made base before first first (lines_of text) s used (before + 1) text (length text)
+made-begins base before first text s used is are = rw (is, are) (made-start base before first text)
 
-pub made-fits : (first now : Option (List ℕ)) (all : List (List ℕ)) (s : State) (used : List ℕ) (number : ℕ) (rest : List ℕ) (most : ℕ) → most ≤ 67108864 → Made first now all s used number rest most → Fits s
-made-fits first now all s used number rest most le made = come-fits s made.h (length made.made) (omega (arith, made.room)) made.stands made.come
+pub made-fits : (base : SettingsAt) (before : ℕ) (first now : Option (List ℕ)) (all : List (List ℕ)) (s : State) (used : List ℕ) (number : ℕ) (rest : List ℕ) (most : ℕ) → most ≤ 67108864 → Made base before first now all s used number rest most → Fits s
+made-fits base before first now all s used number rest most le made = come-fits s made.h (length made.made) (omega (arith, made.room)) made.stands made.come
 
 length-snoc : (made : List (List ℕ)) (text : List ℕ) → length (made ++ text ∷ []) ≡ length made + 1
 length-snoc made text = length-append made (text ∷ [])
 
 -- a line was made and its events were written
-pub made-next : (first now new : Option (List ℕ)) (all : List (List ℕ)) (s : State) (used : List ℕ) (number : ℕ) (rest : List ℕ) (most : ℕ) (text behind : List ℕ) (line : Line) → most ≤ 67108864
+pub made-next : (base : SettingsAt) (before : ℕ) (first now new : Option (List ℕ)) (all : List (List ℕ)) (s : State) (used : List ℕ) (number : ℕ) (rest : List ℕ) (most : ℕ) (text behind : List ℕ) (line : Line) → most ≤ 67108864
     → lines_of rest ≡ text ∷ lines_of behind → length behind < length rest → (new_line used text).Says line → Adds (lines_text (events_of line s)) now new
-    → Made first now all s used number rest most → Made first new all (after line s) (used_after line used) (number + 1) behind most
-made-next first now new all s used number rest most text behind line le cut shorter says written made =
+    → Made base before first now all s used number rest most → Made base before first new all (after line s) (used_after line used) (number + 1) behind most
+made-next base before first now new all s used number rest most text behind line le cut shorter says written made =
     let few : length made.made < 4294967295 = omega (arith, made.room) in
     let after-new = new-after used made.h text line made.among says in
     let makes = makes-line s made.h line (length made.made) few made.stands made.come after-new.within after-new.fresh in
@@ -182,29 +186,30 @@ made-next first now new all s used number rest most text behind line le cut shor
       h = onto (events_of line s) made.h;
       made = made.made ++ text ∷ [];
       cut = made.cut ∙ ap (λ (l : List (List ℕ)). made.made ++ l) cut ∙ sym (append_assoc made.made (text ∷ []) (lines_of behind));
-      leads = leads-more [] made.made made.h text line (events_of line s) made.leads after-new.says makes.tells;
+      leads = leads-more base [] made.made made.h text line (events_of line s) made.leads after-new.says (subst (λ (b : SettingsAt). Tells b made.h line (events_of line s)) made.settings makes.tells);
+      settings = makes.base ∙ made.settings;
       stands = makes.stands;
       come = subst (HasCome (after line s)) (sym (length-snoc made.made text)) makes.come;
       among = used-after-line line s used made.h after-new.within made.among;
-      counted = ap (λ n. n + 1) made.counted ∙ omega (arith, length-snoc made.made text);
+      counted = omega (arith, made.counted, length-snoc made.made text);
       room = omega (arith, length-snoc made.made text, made.room);
       written = subst (λ (l : List ℕ). Adds l first new) (sym (text_grows (events_of line s) made.h)) (adds-more (text_of made.h) (lines_text (events_of line s)) first now new made.written written);
     }
 
 -- no line is left
-pub made-whole : (first now : Option (List ℕ)) (all : List (List ℕ)) (s : State) (used : List ℕ) (number : ℕ) (rest : List ℕ) (most : ℕ) → length rest ≡ 0 → Made first now all s used number rest most → MakesAll all first now
-made-whole first now all s used number [] most end made = record {
+pub made-whole : (base : SettingsAt) (before : ℕ) (first now : Option (List ℕ)) (all : List (List ℕ)) (s : State) (used : List ℕ) (number : ℕ) (rest : List ℕ) (most : ℕ) → length rest ≡ 0 → Made base before first now all s used number rest most → MakesAll base all first now
+made-whole base before first now all s used number [] most end made = record {
   h = made.h;
-  leads = subst (λ (l : List (List ℕ)). Leads [] l made.h) (sym (made.cut ∙ append-nil made.made)) made.leads;
+  leads = subst (λ (l : List (List ℕ)). Leads base [] l made.h) (sym (made.cut ∙ append-nil made.made)) made.leads;
   lawful = good-lawful made.h made.stands.good;
   written = made.written;
 }
-made-whole first now all s used number (b ∷ rest) most end made = absurd (omega arith)
+made-whole base before first now all s used number (b ∷ rest) most end made = absurd (omega arith)
 
 -- the next line breaks a rule
-pub made-fault : (first now : Option (List ℕ)) (all : List (List ℕ)) (s : State) (used : List ℕ) (number : ℕ) (rest : List ℕ) (most : ℕ) (text behind : List ℕ) (fault : Fault)
-    → lines_of rest ≡ text ∷ lines_of behind → fault.line ≡ number → (new_line used text).Breaks fault.rule fault.at → Made first now all s used number rest most → MakesUntil all first now fault
-made-fault first now all s used number rest most text behind fault cut counted breaks made = record {
+pub made-fault : (base : SettingsAt) (before : ℕ) (first now : Option (List ℕ)) (all : List (List ℕ)) (s : State) (used : List ℕ) (number : ℕ) (rest : List ℕ) (most : ℕ) (text behind : List ℕ) (fault : Fault)
+    → lines_of rest ≡ text ∷ lines_of behind → fault.line ≡ number → (new_line used text).Breaks fault.rule fault.at → Made base before first now all s used number rest most → MakesUntil base before all first now fault
+made-fault base before first now all s used number rest most text behind fault cut counted breaks made = record {
   h = made.h;
   made = made.made;
   bad = text;
@@ -218,8 +223,8 @@ made-fault first now all s used number rest most text behind fault cut counted b
 }
 
 -- the work stops between two lines
-pub made-some : (first now : Option (List ℕ)) (all : List (List ℕ)) (s : State) (used : List ℕ) (number : ℕ) (rest : List ℕ) (most : ℕ) → Made first now all s used number rest most → MakesSome all first now
-made-some first now all s used number rest most made = record {
+pub made-some : (base : SettingsAt) (before : ℕ) (first now : Option (List ℕ)) (all : List (List ℕ)) (s : State) (used : List ℕ) (number : ℕ) (rest : List ℕ) (most : ℕ) → Made base before first now all s used number rest most → MakesSome base all first now
+made-some base before first now all s used number rest most made = record {
   h = made.h;
   made = made.made;
   rest = lines_of rest;
@@ -230,10 +235,10 @@ made-some first now all s used number rest most made = record {
 }
 
 -- the work stops while the events of a line are written
-pub made-cut : (first now new : Option (List ℕ)) (all : List (List ℕ)) (s : State) (used : List ℕ) (number : ℕ) (rest : List ℕ) (most : ℕ) (text behind : List ℕ) (line : Line) → most ≤ 67108864
+pub made-cut : (base : SettingsAt) (before : ℕ) (first now new : Option (List ℕ)) (all : List (List ℕ)) (s : State) (used : List ℕ) (number : ℕ) (rest : List ℕ) (most : ℕ) (text behind : List ℕ) (line : Line) → most ≤ 67108864
     → lines_of rest ≡ text ∷ lines_of behind → (new_line used text).Says line → AddsPrefix (lines_text (events_of line s)) now new
-    → Made first now all s used number rest most → MakesSome all first new
-made-cut first now new all s used number rest most text behind line le cut says written made =
+    → Made base before first now all s used number rest most → MakesSome base all first new
+made-cut base before first now new all s used number rest most text behind line le cut says written made =
     let few : length made.made < 4294967295 = omega (arith, made.room) in
     let after-new = new-after used made.h text line made.among says in
     let makes = makes-line s made.h line (length made.made) few made.stands made.come after-new.within after-new.fresh in
@@ -242,7 +247,7 @@ made-cut first now new all s used number rest most text behind line le cut says 
       made = made.made ++ text ∷ [];
       rest = lines_of behind;
       cut = made.cut ∙ ap (λ (l : List (List ℕ)). made.made ++ l) cut ∙ sym (append_assoc made.made (text ∷ []) (lines_of behind));
-      leads = leads-more [] made.made made.h text line (events_of line s) made.leads after-new.says makes.tells;
+      leads = leads-more base [] made.made made.h text line (events_of line s) made.leads after-new.says (subst (λ (b : SettingsAt). Tells b made.h line (events_of line s)) made.settings makes.tells);
       lawful = good-lawful (onto (events_of line s) made.h) makes.stands.good;
       written = subst (λ (l : List ℕ). AddsPrefix l first new) (sym (text_grows (events_of line s) made.h)) (adds-prefix (text_of made.h) (lines_text (events_of line s)) first now new made.written written);
     }

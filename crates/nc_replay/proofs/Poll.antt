@@ -144,7 +144,7 @@ waits-looked k c begin from look floor found d h w new wait =
     (waits-push nothing d _ (Started 0 k (cursor_of from)) w (λ l. refl) (rw other refl) refl
     (waits-push nothing d h (Subscribed 0 k None (c ∷ []) Direct begin 0 false) w (λ l. refl) (rw other refl) (rw other refl) wait)))
 
-pub waits-answered : (fresh : Message → Type 0) (k : ℕ) (c : List ℕ) (id : Id) (look : ℕ) (d : List ℕ) (h : List Event) (w : Waiting) → (k == w.k) ≡ false → Waits fresh d h w → Waits fresh d (answered k c id look h) w
+pub waits-answered : (fresh : Option Id) (k : ℕ) (c : List ℕ) (id : Id) (look : ℕ) (d : List ℕ) (h : List Event) (w : Waiting) → (k == w.k) ≡ false → Waits fresh d h w → Waits fresh d (answered k c id look h) w
 waits-answered fresh k c id look d h w other wait =
     waits-push fresh d _ (Ended 0 k Answered) w (λ l. refl) (rw other refl) refl
     (waits-push fresh d h (Sent 0 k 0 c id (cursor_of id) (look ∷ [])) w (λ l. refl) (rw other refl) refl wait)
@@ -254,6 +254,7 @@ stands-entered k c begin from s h starts stands new none =
       looked = refl;
       buffered = find-none c from (relieved k c begin from h) (b.first ∙ none);
       later = tt;
+      has = tt;
     } in
     record {
       good = b.good;

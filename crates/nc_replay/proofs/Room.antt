@@ -83,73 +83,73 @@ none-staying now later ms kept is are = rw (is, are) (none-pass (is_expired now)
 pub none-let : (c : List ℕ) (h : List Event) → IsGood h → NoneExpired 0 c (let_expired c h)
 none-let c h good = none-staying (clock_of (own 0 h)) (clock_of (own 0 (let_expired c h))) (buffer c h) (buffer c (let_expired c h)) (lefts-same (λ l. clock_of (own 0 l)) 0 c Expired (expired c h (own 0 h)) h (λ id slot l. refl)) (buffer-let c h good)
 
--- the first n messages leave, where 9 stay at least
-good-surplus : (c : List ℕ) (n : ℕ) (ms : List Message) (h : List Event) → IsGoodBut (LeavesOrClears c) h → NobodyServed h → buffer c h ≡ ms → IsRising ms → (n ≡ 0) ⊎ (n + 9 ≤ length ms) → IsGoodBut (LeavesOrClears c) (lefts 0 c Length (take n ms) h)
-good-surplus c zero ms h good nobody are rises many = good
-good-surplus c (suc n) [] h good nobody are rises many = good
-good-surplus c (suc n) (m ∷ ms) h good nobody are rises many =
+-- the first n messages leave, where len - 1 stay at least
+good-surplus : (c : List ℕ) (len n : ℕ) (ms : List Message) (h : List Event) → IsGoodBut (LeavesOrClears c len) h → NobodyServed h → buffer c h ≡ ms → IsRising ms → (n ≡ 0) ⊎ (n + (len - 1) ≤ length ms) → IsGoodBut (LeavesOrClears c len) (lefts 0 c Length (take n ms) h)
+good-surplus c len zero ms h good nobody are rises many = good
+good-surplus c len (suc n) [] h good nobody are rises many = good
+good-surplus c len (suc n) (m ∷ ms) h good nobody are rises many =
     let left = Left 0 c m.id m.slot Length in
     let first : IsFirst (buffer c h) m.id m.slot = subst (λ l. IsFirst l m.id m.slot) (sym are) (refl, refl) in
-    let full : 9 < length (buffer c h) = subst (λ l. 9 < length l) (sym are) (enough many) in
-    let next : IsNextBut (LeavesOrClears c) h left = record { stamped = tt; ordered = nobody; sent = tt; started = tt; quiet = tt; keeps = buffer-in c m.id h (first-id (buffer c h) m.id m.slot first); left = inr (refl, refl, first, full, tt); finds = tt } in
-    good-surplus c n ms (left ∷ h) (good-turn (LeavesOrClears c) (LeavesOrClears c) h left good next (λ newer x older is at. clears-more c m.id m.slot newer x older at)) (nobody-left c m.id m.slot Length h nobody)
+    let full : len - 1 < length (buffer c h) = subst (λ l. len - 1 < length l) (sym are) (enough many) in
+    let next : IsNextBut (LeavesOrClears c len) h left = record { stamped = tt; ordered = nobody; sent = tt; started = tt; quiet = tt; keeps = buffer-in c m.id h (first-id (buffer c h) m.id m.slot first); left = inr (refl, refl, first, full, tt); finds = tt } in
+    good-surplus c len n ms (left ∷ h) (good-turn (LeavesOrClears c len) (LeavesOrClears c len) h left good next (λ newer x older is at. clears-more c len m.id m.slot newer x older at)) (nobody-left c m.id m.slot Length h nobody)
     (buffer-first c m.id m.slot Length h ∙ ap (without m.id) are ∙ without-first m ms rises) rises.1 (inr (fewer many))
   where
-    enough : (suc n ≡ 0) ⊎ (suc n + 9 ≤ length (m ∷ ms)) → 9 < length (m ∷ ms)
+    enough : (suc n ≡ 0) ⊎ (suc n + (len - 1) ≤ length (m ∷ ms)) → len - 1 < length (m ∷ ms)
     enough (inl none) = omega arith
     enough (inr at) = omega arith
 
-    fewer : (suc n ≡ 0) ⊎ (suc n + 9 ≤ length (m ∷ ms)) → n + 9 ≤ length ms
+    fewer : (suc n ≡ 0) ⊎ (suc n + (len - 1) ≤ length (m ∷ ms)) → n + (len - 1) ≤ length ms
     fewer (inl none) = omega arith
     fewer (inr at) = omega arith
 
--- the history once room was made for one more message
-abbrev pub make_room : List ℕ → List Event → List Event
-make_room c h = lefts 0 c Length (surplus 10 (staying c h (own 0 h))) (let_expired c h)
+-- the history once room was made for one more message of a length
+abbrev pub make_room : List ℕ → ℕ → List Event → List Event
+make_room c len h = lefts 0 c Length (surplus len (staying c h (own 0 h))) (let_expired c h)
 
-none-or-many : (n : ℕ) → (n - 9 ≡ 0) ⊎ (n - 9 + 9 ≤ n)
-none-or-many n = grind arith
+none-or-many : (n most : ℕ) → (n - most ≡ 0) ⊎ (n - most + most ≤ n)
+none-or-many n most = grind arith
 
-pub good-room : (c : List ℕ) (h : List Event) → IsGood h → NobodyServed h → IsGoodBut (LeavesOrClears c) (make_room c h)
-good-room c h good nobody =
+pub good-room : (c : List ℕ) (len : ℕ) (h : List Event) → IsGood h → NobodyServed h → IsGoodBut (LeavesOrClears c len) (make_room c len h)
+good-room c len h good nobody =
     let messages = staying c h (own 0 h) in
-    good-surplus c (length messages - 9) messages (let_expired c h) (good-clears c (let_expired c h) (good-let c h good nobody)) (nobody-lefts c Expired (expired c h (own 0 h)) h nobody) (buffer-let c h good)
-    (rising-filtered (λ m. not (is_expired (clock_of (own 0 h)) m)) (buffer c h) (rising-buffer _ c h good)) (none-or-many (length messages))
+    good-surplus c len (length messages - (len - 1)) messages (let_expired c h) (good-clears c len (let_expired c h) (good-let c h good nobody)) (nobody-lefts c Expired (expired c h (own 0 h)) h nobody) (buffer-let c h good)
+    (rising-filtered (λ m. not (is_expired (clock_of (own 0 h)) m)) (buffer c h) (rising-buffer _ c h good)) (none-or-many (length messages) (len - 1))
 
-pub nobody-room : (c : List ℕ) (h : List Event) → NobodyServed h → NobodyServed (make_room c h)
-nobody-room c h nobody = nobody-lefts c Length (surplus 10 (staying c h (own 0 h))) (let_expired c h) (nobody-lefts c Expired (expired c h (own 0 h)) h nobody)
+pub nobody-room : (c : List ℕ) (len : ℕ) (h : List Event) → NobodyServed h → NobodyServed (make_room c len h)
+nobody-room c len h nobody = nobody-lefts c Length (surplus len (staying c h (own 0 h))) (let_expired c h) (nobody-lefts c Expired (expired c h (own 0 h)) h nobody)
 
-pub alone-room : (c : List ℕ) (h : List Event) → ((w : ℕ) → (w == 0) ≡ false → own w h ≡ []) → (w : ℕ) → (w == 0) ≡ false → own w (make_room c h) ≡ []
-alone-room c h alone = alone-lefts c Length (surplus 10 (staying c h (own 0 h))) (let_expired c h) (alone-lefts c Expired (expired c h (own 0 h)) h alone)
+pub alone-room : (c : List ℕ) (len : ℕ) (h : List Event) → ((w : ℕ) → (w == 0) ≡ false → own w h ≡ []) → (w : ℕ) → (w == 0) ≡ false → own w (make_room c len h) ≡ []
+alone-room c len h alone = alone-lefts c Length (surplus len (staying c h (own 0 h))) (let_expired c h) (alone-lefts c Expired (expired c h (own 0 h)) h alone)
 
 -- what no message that leaves changes
-pub room-same : {X : Type 0} (f : List Event → X) (c : List ℕ) (h : List Event) → ((id : Id) (slot : ℕ) (cause : LeftCause) (l : List Event) → f (Left 0 c id slot cause ∷ l) ≡ f l) → f (make_room c h) ≡ f h
-room-same f c h same = lefts-same f 0 c Length (surplus 10 (staying c h (own 0 h))) (let_expired c h) (λ id slot l. same id slot Length l) ∙ lefts-same f 0 c Expired (expired c h (own 0 h)) h (λ id slot l. same id slot Expired l)
+pub room-same : {X : Type 0} (f : List Event → X) (c : List ℕ) (len : ℕ) (h : List Event) → ((id : Id) (slot : ℕ) (cause : LeftCause) (l : List Event) → f (Left 0 c id slot cause ∷ l) ≡ f l) → f (make_room c len h) ≡ f h
+room-same f c len h same = lefts-same f 0 c Length (surplus len (staying c h (own 0 h))) (let_expired c h) (λ id slot l. same id slot Length l) ∙ lefts-same f 0 c Expired (expired c h (own 0 h)) h (λ id slot l. same id slot Expired l)
 
 -- the messages for which there is room beside one more
-abbrev pub within : List Message → List Message
-within messages = drop (length messages - 9) messages
+abbrev pub within : ℕ → List Message → List Message
+within len messages = drop (length messages - (len - 1)) messages
 
-pub buffer-room : (c : List ℕ) (h : List Event) → IsGood h → buffer c (make_room c h) ≡ within (staying c h (own 0 h))
-buffer-room c h good =
+pub buffer-room : (c : List ℕ) (len : ℕ) (h : List Event) → IsGood h → buffer c (make_room c len h) ≡ within len (staying c h (own 0 h))
+buffer-room c len h good =
     let messages = staying c h (own 0 h) in
-    buffer-lefts c 0 c Length (surplus 10 messages) (let_expired c h) (name-self c c refl)
-    ∙ ap (without_all (surplus 10 messages)) (buffer-let c h good)
-    ∙ without_all-take (length messages - 9) messages (rising-filtered (λ m. not (is_expired (clock_of (own 0 h)) m)) (buffer c h) (rising-buffer _ c h good))
+    buffer-lefts c 0 c Length (surplus len messages) (let_expired c h) (name-self c c refl)
+    ∙ ap (without_all (surplus len messages)) (buffer-let c h good)
+    ∙ without_all-take (length messages - (len - 1)) messages (rising-filtered (λ m. not (is_expired (clock_of (own 0 h)) m)) (buffer c h) (rising-buffer _ c h good))
 
-pub buffer-room-other : (c d : List ℕ) (h : List Event) → name_eq c d ≡ false → buffer d (make_room c h) ≡ buffer d h
-buffer-room-other c d h other = buffer-lefts-other d 0 c Length (surplus 10 (staying c h (own 0 h))) (let_expired c h) other ∙ buffer-lefts-other d 0 c Expired (expired c h (own 0 h)) h other
+pub buffer-room-other : (c d : List ℕ) (len : ℕ) (h : List Event) → name_eq c d ≡ false → buffer d (make_room c len h) ≡ buffer d h
+buffer-room-other c d len h other = buffer-lefts-other d 0 c Length (surplus len (staying c h (own 0 h))) (let_expired c h) other ∙ buffer-lefts-other d 0 c Expired (expired c h (own 0 h)) h other
 
 all-drop : {X : Type 0} (P : X → Type 0) (n : ℕ) (xs : List X) → AllByRecursion P xs → AllByRecursion P (drop n xs)
 all-drop P zero xs all = all
 all-drop P (suc n) [] all = tt
 all-drop P (suc n) (x ∷ xs) all = all-drop P n xs all.1
 
-none-within : (now later : ℕ) (ms kept : List Message) → later ≡ now → kept ≡ within (filter (λ m. not (is_expired now m)) ms) → AllByRecursion (λ m. is_expired later m ≡ false) kept
-none-within now later ms kept is are = rw (is, are) (all-drop (λ m. is_expired now m ≡ false) (length (filter (λ m. not (is_expired now m)) ms) - 9) (filter (λ m. not (is_expired now m)) ms) (none-pass (is_expired now) ms))
+none-within : (len now later : ℕ) (ms kept : List Message) → later ≡ now → kept ≡ within len (filter (λ m. not (is_expired now m)) ms) → AllByRecursion (λ m. is_expired later m ≡ false) kept
+none-within len now later ms kept is are = rw (is, are) (all-drop (λ m. is_expired now m ≡ false) (length (filter (λ m. not (is_expired now m)) ms) - (len - 1)) (filter (λ m. not (is_expired now m)) ms) (none-pass (is_expired now) ms))
 
-pub none-room : (c : List ℕ) (h : List Event) → IsGood h → NoneExpired 0 c (make_room c h)
-none-room c h good = none-within (clock_of (own 0 h)) (clock_of (own 0 (make_room c h))) (buffer c h) (buffer c (make_room c h)) (room-same (λ l. clock_of (own 0 l)) c h (λ id slot cause l. refl)) (buffer-room c h good)
+pub none-room : (c : List ℕ) (len : ℕ) (h : List Event) → IsGood h → NoneExpired 0 c (make_room c len h)
+none-room c len h good = none-within len (clock_of (own 0 h)) (clock_of (own 0 (make_room c len h))) (buffer c h) (buffer c (make_room c len h)) (room-same (λ l. clock_of (own 0 l)) c len h (λ id slot cause l. refl)) (buffer-room c len h good)
 
-pub within-few : (messages : List Message) → length (within messages) ≤ 9
-within-few messages = omega (arith, length-drop (length messages - 9) messages)
+pub within-few : (len : ℕ) (messages : List Message) → length (within len messages) ≤ len - 1
+within-few len messages = omega (arith, length-drop (length messages - (len - 1)) messages)

@@ -1,9 +1,10 @@
 -- What the engine's state says of the history so far.
-use Rattle.std.proofs.Common.{◌≡◌, ◌⊎◌, inl, inr, ℕ, zero, suc, Bool, true, false, cond, ◌==◌, List, [], ◌∷◌, ◌++◌, map, filter, not, refl, sym, ◌∙◌, subst, ap, Option, Some, slice_get}
+use Rattle.std.proofs.Common.{◌≡◌, ◌⊎◌, inl, inr, ℕ, zero, suc, Bool, true, false, cond, ◌==◌, List, [], ◌∷◌, ◌++◌, map, filter, not, refl, sym, ◌∙◌, subst, ap, Option, Some, None, slice_get}
 use Rattle.std.specs.List.{AllByRecursion}
 use Rattle.std.proofs.lemmas.Bool.{eqb-true}
 use Rattle.nc_types.specs.Id.{Id, IsPast}
 use Rattle.nc_types.specs.Cursor.{CursorAt, cursor_id, cursor_of}
+use Rattle.nc_types.specs.Settings.{SettingsAt}
 use Rattle.nc_journal.specs.declared.event.Event.{Event}
 use Rattle.nc_journal.specs.declared.event.Event.TheVariants.{Clock as ClockEvent, Left, Looked, Quiet}
 use Rattle.nc_journal.specs.declared.word.LeftCause.{LeftCause}
@@ -12,7 +13,7 @@ use Rattle.nc_journal.specs.History.{own, is_by}
 use Rattle.nc_journal.specs.Stamp.{clock_of, floor_of, last_of}
 use Rattle.nc_journal.specs.Message.{Message, published, buffer, is_gone}
 use Rattle.nc_journal.specs.Standing.{Stage, Absent, Starting, Standing, Served, Over, stage_of, IsServed, NobodyServed}
-use Rattle.nc_journal.specs.Sending.{LacksNothing}
+use Rattle.nc_journal.specs.Sending.{HasId, LacksNothing}
 use Rattle.nc_journal.proofs.Cuts.{all-weaker, all-left, all-right}
 use Rattle.nc_journal.proofs.Buffers.{published-push, buffer-keeps, all-filtered}
 use Rattle.nc_journal.proofs.Leavings.{lefts}
@@ -40,8 +41,17 @@ entries messages = map entry_at messages
 abbrev pub IsNotPast : Id → Message → Type 0
 IsNotPast from m = IsPast m.id from → ⊥
 
--- a subscriber that waits at channel c: it stands behind its id, and what its look saw or was stored since isn't past it, but for what is fresh
-pub record Waits (fresh : Message → Type 0) (c : List ℕ) (h : List Event) (w : Waiting) : Type 0 where
+-- a message is the one of a fresh id, if there is one, and such a message is among some
+abbrev pub IsFresh : Option Id → Message → Type 0
+IsFresh None m = ⊥
+IsFresh (Some id) m = m.id ≡ id
+
+abbrev pub HasFresh : Option Id → List Message → Type 0
+HasFresh None messages = Unit {0}
+HasFresh (Some id) messages = HasId messages id
+
+-- a subscriber that waits at channel c: it stands behind its id, and what its look saw or was stored since isn't past it, but for a fresh message, which was stored since
+pub record Waits (fresh : Option Id) (c : List ℕ) (h : List Event) (w : Waiting) : Type 0 where
   pub stage : stage_of w.k (own 0 h) ≡ Standing (c ∷ []) true (cursor_of w.from)
   pub look : look_of w.k (own 0 h) ≡ w.look
   pub since : List Event
@@ -50,10 +60,11 @@ pub record Waits (fresh : Message → Type 0) (c : List ℕ) (h : List Event) (w
   pub found : Option Id
   pub looked : h ≡ since ++ Looked 0 w.look 0 w.look c w.from floor found ∷ seen
   pub buffered : AllByRecursion (IsNotPast w.from) (buffer c seen)
-  pub later : AllByRecursion (λ m. IsNotPast w.from m ⊎ fresh m) (published c since)
+  pub later : AllByRecursion (λ m. IsNotPast w.from m ⊎ IsFresh fresh m) (published c since)
+  pub has : HasFresh fresh (published c since)
 
-abbrev pub nothing : Message → Type 0
-nothing m = ⊥
+abbrev pub nothing : Option Id
+nothing = None
 
 -- between two lines each subscriber is absent, over or waits at its one channel
 abbrev pub SettledAt : List Channel → ℕ → Stage → Type 0
@@ -77,8 +88,8 @@ pub record StandsFor (s : State) (h : List Event) : Type 0 where
   pub settled : (k : ℕ) → SettledAt s.channels k (stage_of k (own 0 h))
   pub alone : (w : ℕ) → (w == 0) ≡ false → own w h ≡ []
 
-pub stands-start : StandsFor start []
-stands-start = record {
+pub stands-start : (base : SettingsAt) → StandsFor (start base) []
+stands-start base = record {
   good = good-start;
   clock = refl;
   floor = refl;
@@ -94,7 +105,7 @@ stands-start = record {
 }
 
 -- an event that stores nothing and changes nothing of a subscriber leaves it waiting
-pub waits-push : (fresh : Message → Type 0) (c : List ℕ) (h : List Event) (e : Event) (w : Waiting) → ((l : List Event) → published c (e ∷ l) ≡ published c l)
+pub waits-push : (fresh : Option Id) (c : List ℕ) (h : List Event) (e : Event) (w : Waiting) → ((l : List Event) → published c (e ∷ l) ≡ published c l)
     → stage_of w.k (own 0 (e ∷ h)) ≡ stage_of w.k (own 0 h) → look_of w.k (own 0 (e ∷ h)) ≡ look_of w.k (own 0 h) → Waits fresh c h w → Waits fresh c (e ∷ h) w
 waits-push fresh c h e w stores stage look wait = record {
   stage = stage ∙ wait.stage;
@@ -105,11 +116,12 @@ waits-push fresh c h e w stores stage look wait = record {
   found = wait.found;
   looked = ap (λ (l : List Event). e ∷ l) wait.looked;
   buffered = wait.buffered;
-  later = subst (AllByRecursion (λ m. IsNotPast w.from m ⊎ fresh m)) (sym (stores wait.since)) wait.later;
+  later = subst (AllByRecursion (λ m. IsNotPast w.from m ⊎ IsFresh fresh m)) (sym (stores wait.since)) wait.later;
+  has = subst (HasFresh fresh) (sym (stores wait.since)) wait.has;
 }
 
 -- messages that leave change nothing of one that waits
-pub waits-lefts : (fresh : Message → Type 0) (d c : List ℕ) (cause : LeftCause) (ms : List Message) (h : List Event) (w : Waiting) → Waits fresh d h w → Waits fresh d (lefts 0 c cause ms h) w
+pub waits-lefts : (fresh : Option Id) (d c : List ℕ) (cause : LeftCause) (ms : List Message) (h : List Event) (w : Waiting) → Waits fresh d h w → Waits fresh d (lefts 0 c cause ms h) w
 waits-lefts fresh d c cause [] h w wait = wait
 waits-lefts fresh d c cause (m ∷ ms) h w wait = waits-lefts fresh d c cause ms (Left 0 c m.id m.slot cause ∷ h) w (waits-push fresh d h (Left 0 c m.id m.slot cause) w (λ l. refl) refl refl wait)
 
@@ -126,11 +138,11 @@ lacks-none c h w wait =
     subst (λ (l : List Event). AllByRecursion (IsNotPast w.from) (buffer c l)) (sym wait.looked)
     (buffer-since (IsNotPast w.from) c wait.since _ (buffer-keeps (IsNotPast w.from) c (Looked 0 w.look 0 w.look c w.from wait.floor wait.found) wait.seen wait.buffered tt) (all-weaker _ _ (λ m. not-fresh m) (published c wait.since) wait.later))
   where
-    not-fresh : (m : Message) → IsNotPast w.from m ⊎ nothing m → IsNotPast w.from m
+    not-fresh : (m : Message) → IsNotPast w.from m ⊎ IsFresh nothing m → IsNotPast w.from m
     not-fresh m (inl h) = h
     not-fresh m (inr h) = absurd h
 
-pub find-waiting : (fresh : Message → Type 0) (c : List ℕ) (h : List Event) (waiting : List Waiting) (k : ℕ) → AllByRecursion (Waits fresh c h) waiting → HasNumber (numbers waiting) k → (w : Waiting) × (w.k ≡ k) × Waits fresh c h w
+pub find-waiting : (fresh : Option Id) (c : List ℕ) (h : List Event) (waiting : List Waiting) (k : ℕ) → AllByRecursion (Waits fresh c h) waiting → HasNumber (numbers waiting) k → (w : Waiting) × (w.k ≡ k) × Waits fresh c h w
 find-waiting fresh c h [] k all there = absurd there
 find-waiting fresh c h (w ∷ waiting) k all (inl same) = (w, same, all.0)
 find-waiting fresh c h (w ∷ waiting) k all (inr there) = find-waiting fresh c h waiting k all.1 there

@@ -1,9 +1,10 @@
 -- Each line leads from what the state stands for to what the state after it stands for, and tells its events.
 use Rattle.std.proofs.Common.{◌≡◌, ℕ, ◌+◌, ◌<◌, ◌≤◌, max, List, [], ◌∷◌, refl, sym, subst, ◌∙◌, arith, Option, Some, None}
 use Rattle.nc_types.specs.Id.{Id}
+use Rattle.nc_types.specs.Settings.{SettingsAt}
 use Rattle.nc_journal.specs.declared.event.Event.{Event}
 use Rattle.nc_journal.specs.History.{onto}
-use Rattle.nc_journal.specs.Stamp.{next_id}
+use Rattle.nc_journal.specs.Stamp.{next_id, expiry}
 use Rattle.nc_journal.proofs.Standings.{absent-unless}
 use Rattle.nc_replay.specs.declared.engine.Channel.{Channel}
 use Rattle.nc_replay.specs.declared.engine.Waiting.{Waiting}
@@ -35,9 +36,10 @@ IsWithin _ = Unit {0}
 
 -- what a line makes of a state and a history
 pub record Makes (s : State) (h : List Event) (l : Line) (n : ℕ) : Type 0 where
-  pub tells : Tells h l (events_of l s)
+  pub tells : Tells s.base h l (events_of l s)
   pub stands : StandsFor (after l s) (onto (events_of l s) h)
   pub come : HasCome (after l s) (n + 1)
+  pub base : (after l s).base ≡ s.base
 
 -- the time of the next stamp is at most one second past the clock and the floor
 stamp-time : (clock floor : ℕ) (last : Id) (n : ℕ) → clock ≤ 4102444800 → floor ≤ 4102444800 + n → last.time ≤ floor → (next_id (max clock floor) last).time ≤ 4102444800 + n + 1
@@ -62,7 +64,7 @@ come-post : (c : List ℕ) (s : State) (n : ℕ) → (next_stamp c s).time ≤ 4
 come-post c s n time come = record {
   clock = come.clock;
   floor = floor-comes s.floor (next_stamp c s).time come.floor time;
-  last = each-channel (λ d x. x.last.time ≤ max s.floor (next_stamp c s).time) c (posted (next_stamp c s) (s.clock + 3600) (touched s.clock (channel_of c s.channels))) s.channels (channel-name c s.channels) (omega arith) (λ d. omega (arith, come.last d));
+  last = each-channel (λ d x. x.last.time ≤ max s.floor (next_stamp c s).time) c (posted s.base.length (next_stamp c s) (expiry s.clock s.base.timeout) (touched s.clock (channel_of c s.channels))) s.channels (channel-name c s.channels) (omega arith) (λ d. omega (arith, come.last d));
   posts = omega (arith, come.posts);
   polls = omega (arith, come.polls);
 }
@@ -92,22 +94,23 @@ come-poll k c from s n come =
     }
 
 pub makes-line : (s : State) (h : List Event) (l : Line) (n : ℕ) → n < 4294967295 → StandsFor s h → HasCome s n → IsWithin l → IsNew h l → Makes s h l n
-makes-line s h Blank n few stands come within new = record { tells = refl; stands = stands; come = come-blank s n come }
-makes-line s h (Clock w t) n few stands come within new = record { tells = refl; stands = stands-quiet _ _ (stands-clock t s h stands); come = come-clock t s n within come }
-makes-line s h (Reap w) n few stands come within new = record { tells = tells-reap s h stands; stands = stands-reap s h stands; come = come-reap s n come }
+makes-line s h Blank n few stands come within new = record { tells = refl; stands = stands; come = come-blank s n come; base = refl }
+makes-line s h (Clock w t) n few stands come within new = record { tells = refl; stands = stands-quiet _ _ (stands-clock t s h stands); come = come-clock t s n within come; base = refl }
+makes-line s h (Reap w) n few stands come within new = record { tells = tells-reap s h stands; stands = stands-reap s h stands; come = come-reap s n come; base = refl }
 makes-line s h (Post w c body) n few stands come within new =
     let time = stamp-time s.clock s.floor (channel_of c s.channels).last n come.clock come.floor (come.last c) in
-    record { tells = tells-post c body s h stands; stands = stands-post c body s h (omega (arith, time)) stands; come = come-post c s n time come }
+    record { tells = tells-post c body s h stands; stands = stands-post c body s h (omega (arith, time)) stands; come = come-post c s n time come; base = refl }
 makes-line s h (Poll w k [] begin) n few stands come within new = absurd within
 makes-line s h (Poll w k (c ∷ []) begin) n few stands come within new = record {
   tells = tells-poll k c begin s h stands;
   stands = stands-poll k c begin (start_id begin) s h within stands (absent-unless k 0 h stands.good.standing new);
   come = come-poll k c (start_id begin) s n come;
+  base = refl;
 }
 makes-line s h (Poll w k (c ∷ (d ∷ cs)) begin) n few stands come within new = absurd within
 
 pub come-fits : (s : State) (h : List Event) (n : ℕ) → n < 4294967295 → StandsFor s h → HasCome s n → Fits s
 come-fits s h n few stands come = record { clock = come.clock; floor = omega (arith, come.floor); last = come.last; order = stands.order; kept = λ c. ends-at-last c s h stands; posts = omega (arith, come.posts); polls = omega (arith, come.polls) }
 
-pub come-start : HasCome start 0
-come-start = record { clock = omega arith; floor = omega arith; last = λ c. omega arith; posts = omega arith; polls = omega arith }
+pub come-start : (base : SettingsAt) → HasCome (start base) 0
+come-start base = record { clock = omega arith; floor = omega arith; last = λ c. omega arith; posts = omega arith; polls = omega arith }

@@ -1,5 +1,5 @@
 -- The engine as a pure machine: its state, and for each line the events and the state after it.
-use Rattle.std.specs.Prelude.{◌≡◌, ◌⊎◌, ℕ, ◌≤ℤ◌, ◌+◌, ◌<◌, ◌≤◌, max, Bool, true, false, not, List, [], ◌∷◌, ◌++◌, if◌then◌else◌, ◌-◌, nat_lt, map, filter, find, take, drop, length, insert, slice_index_or, slice_set, Option, Some, None}
+use Rattle.std.specs.Prelude.{◌≡◌, ◌⊎◌, ℕ, ◌≤ℤ◌, ◌+◌, ◌<◌, ◌≤◌, max, Bool, false, not, List, [], ◌∷◌, ◌++◌, if◌then◌else◌, ◌-◌, ◌==◌, nat_lt, map, filter, find, take, drop, length, insert, slice_index_or, slice_set, Option, Some, None}
 use Rattle.std.specs.List.{AllByRecursion, flat_map}
 use Rattle.std.specs.Option.{option_map}
 use Rattle.std.specs.Cmp.Lexicographic.{slice_cmp}
@@ -7,8 +7,9 @@ use Rattle.std.specs.Ordering.{nat_cmp, is_lt}
 use Rattle.nc_types.specs.Id.{Id, is_past, no_id}
 use Rattle.nc_types.specs.Cursor.{cursor_of}
 use Rattle.nc_types.specs.Channel.{name_eq}
+use Rattle.nc_types.specs.Settings.{SettingsAt}
 use Rattle.nc_types.specs.declared.start.Start.{Start}
-use Rattle.nc_journal.specs.Stamp.{next_id}
+use Rattle.nc_journal.specs.Stamp.{next_id, expiry}
 use Rattle.nc_journal.specs.declared.word.ModeLine.TheVariants.{Direct}
 use Rattle.nc_journal.specs.declared.event.Event.{Event}
 use Rattle.nc_journal.specs.declared.event.Event.TheVariants.{Clock as ClockEvent, Subscribed, Started, Left, Looked, Stored, Quiet}
@@ -22,16 +23,17 @@ use Rattle.nc_script.specs.declared.line.Line.{Line}
 use Rattle.nc_script.specs.declared.line.Line.TheVariants.{Blank, Clock, Reap, Post, Poll}
 use Rattle.nc_replay.specs.Told.{sends, AreInOrder, start_id}
 
--- what the engine keeps: its clock and floor, how many posts and polls there were, and its channels
+-- what the engine keeps: the settings of its channels, its clock and floor, how many posts and polls there were, and its channels
 pub record State : Type 0 where
+  pub base : SettingsAt
   pub clock : ℕ
   pub floor : ℕ
   pub posts : ℕ
   pub polls : ℕ
   pub channels : List Channel
 
-abbrev pub start : State
-start = record { clock = 0; floor = 0; posts = 0; polls = 0; channels = [] }
+abbrev pub start : SettingsAt → State
+start base = record { base = base; clock = 0; floor = 0; posts = 0; polls = 0; channels = [] }
 
 -- a name comes before another
 abbrev pub is_before : List ℕ → List ℕ → Bool
@@ -97,17 +99,21 @@ entry_of id expires = record { id = id; slot = 0; expires = expires; grants = 0 
 abbrev pub touched : ℕ → Channel → Channel
 touched now channel = record channel { buffer = staying_of now channel.buffer }
 
--- the channel once the oldest beyond the length less one left
-abbrev pub shortened : Channel → Channel
-shortened channel = record channel { buffer = within_of 10 channel.buffer }
+-- the channel once the oldest beyond a length less one left
+abbrev pub shortened : ℕ → Channel → Channel
+shortened len channel = record channel { buffer = within_of len channel.buffer }
+
+-- the entries with a message behind the others, which isn't kept where the length is 0
+abbrev pub kept_in : ℕ → Id → ℕ → List Entry → List Entry
+kept_in len id expires entries = if len == 0 then entries else entries ++ entry_of id expires ∷ []
 
 -- the channel once a message was put behind the others there
-abbrev pub stored_in : Id → ℕ → Channel → Channel
-stored_in id expires channel = record channel { last = id; buffer = channel.buffer ++ entry_of id expires ∷ []; waiting = filter (is_unsent id) channel.waiting }
+abbrev pub stored_in : ℕ → Id → ℕ → Channel → Channel
+stored_in len id expires channel = record channel { last = id; buffer = kept_in len id expires channel.buffer; waiting = filter (is_unsent id) channel.waiting }
 
 -- the channel once a message was stored there
-abbrev pub posted : Id → ℕ → Channel → Channel
-posted id expires channel = stored_in id expires (shortened channel)
+abbrev pub posted : ℕ → Id → ℕ → Channel → Channel
+posted len id expires channel = stored_in len id expires (shortened len channel)
 
 -- the id of the first entry past another
 abbrev pub first_id : Id → List Entry → Option Id
@@ -141,22 +147,22 @@ abbrev pub sends_waiting : List ℕ → Id → Waiting → List Event
 sends_waiting c id w = if is_past id w.from then sends w.k c id (cursor_of id) w.look else []
 
 -- a message is stored in a channel and sent to those who wait for it
-abbrev pub stored_events : Id → ℕ → ℕ → List ℕ → Channel → List Event
-stored_events id expires number body channel =
-    Stored 0 channel.name id 0 10 expires true (length channel.waiting) 0 number None body ∷ flat_map (sends_waiting channel.name id) channel.waiting
+abbrev pub stored_events : ℕ → Id → ℕ → ℕ → List ℕ → Channel → List Event
+stored_events len id expires number body channel =
+    Stored 0 channel.name id 0 len expires (not (len == 0)) (length channel.waiting) 0 number None body ∷ flat_map (sends_waiting channel.name id) channel.waiting
 
 abbrev pub post_events : List ℕ → List ℕ → State → List Event
 post_events c body s =
     let channel = channel_of c s.channels in
     let staying = staying_of s.clock channel.buffer in
     let id = next_stamp c s in
-    map (entry_left c Expired) (expired_of s.clock channel.buffer) ++ map (entry_left c Length) (surplus_of 10 staying)
-    ++ Stored 0 c id 0 10 (s.clock + 3600) true (length channel.waiting) 0 s.posts None body ∷ flat_map (sends_waiting c id) channel.waiting ++ Quiet ∷ []
+    map (entry_left c Expired) (expired_of s.clock channel.buffer) ++ map (entry_left c Length) (surplus_of s.base.length staying)
+    ++ Stored 0 c id 0 s.base.length (expiry s.clock s.base.timeout) (not (s.base.length == 0)) (length channel.waiting) 0 s.posts None body ∷ flat_map (sends_waiting c id) channel.waiting ++ Quiet ∷ []
 
 abbrev pub after_post : List ℕ → State → State
 after_post c s =
     let id = next_stamp c s in
-    record s { floor = max s.floor id.time; posts = s.posts + 1; channels = with_channel c (posted id (s.clock + 3600) (touched s.clock (channel_of c s.channels))) s.channels }
+    record s { floor = max s.floor id.time; posts = s.posts + 1; channels = with_channel c (posted s.base.length id (expiry s.clock s.base.timeout) (touched s.clock (channel_of c s.channels))) s.channels }
 
 -- a subscriber with a start begins behind an id
 abbrev pub begins : ℕ → List ℕ → Start → Id → List Event

@@ -1,6 +1,7 @@
 -- How the lines behind the first one are made, and how that ends.
 use Rattle.std.specs.Prelude.{◌≡◌, ℕ, ◌+◌, Bool, true, false, not, List, [], ◌∷◌, ◌++◌, ◌==◌, length, Option}
 use Rattle.std.specs.List.{list_any}
+use Rattle.nc_types.specs.Settings.{SettingsAt}
 use Rattle.nc_journal.specs.declared.event.Event.{Event}
 use Rattle.nc_journal.specs.Lawful.{IsLawful}
 use Rattle.nc_journal.specs.Text.{text_of}
@@ -41,32 +42,32 @@ unused_number used text said = record {
 abbrev pub new_line : List ℕ → List ℕ → Judge Line
 new_line used text = next (line 1 text) (unused_number used text)
 
--- all lines were made, and the text of their lawful history was written
-pub record MakesAll (lines : List (List ℕ)) (old new : Option (List ℕ)) : Type 0 where
+-- all lines were made by the settings, and the text of their lawful history was written
+pub record MakesAll (base : SettingsAt) (lines : List (List ℕ)) (old new : Option (List ℕ)) : Type 0 where
   pub h : List Event
-  pub leads : Leads [] lines h
+  pub leads : Leads base [] lines h
   pub lawful : IsLawful 1 h
   pub written : Adds (text_of h) old new
 
--- the lines before one that breaks a rule were made, which is the second of the script where it is the first here
-pub record MakesUntil (lines : List (List ℕ)) (old new : Option (List ℕ)) (fault : Fault) : Type 0 where
+-- the lines before one that breaks a rule were made; so many lines of the script stand before all of these
+pub record MakesUntil (base : SettingsAt) (before : ℕ) (lines : List (List ℕ)) (old new : Option (List ℕ)) (fault : Fault) : Type 0 where
   pub h : List Event
   pub made : List (List ℕ)
   pub bad : List ℕ
   pub rest : List (List ℕ)
   pub cut : lines ≡ made ++ bad ∷ rest
-  pub leads : Leads [] made h
+  pub leads : Leads base [] made h
   pub breaks : (line_after h bad).Breaks fault.rule fault.at
-  pub counted : fault.line ≡ length made + 2
+  pub counted : fault.line ≡ before + length made + 1
   pub lawful : IsLawful 1 h
   pub written : Adds (text_of h) old new
 
 -- the first lines were made, and a prefix of the text of their lawful history was written
-pub record MakesSome (lines : List (List ℕ)) (old new : Option (List ℕ)) : Type 0 where
+pub record MakesSome (base : SettingsAt) (lines : List (List ℕ)) (old new : Option (List ℕ)) : Type 0 where
   pub h : List Event
   pub made : List (List ℕ)
   pub rest : List (List ℕ)
   pub cut : lines ≡ made ++ rest
-  pub leads : Leads [] made h
+  pub leads : Leads base [] made h
   pub lawful : IsLawful 1 h
   pub written : AddsPrefix (text_of h) old new

@@ -1,6 +1,9 @@
 -- The lines of a text, and the parts of a script: its configuration, a line `---`, and the lines that are made.
-use Rattle.std.specs.Prelude.{◌≡◌, ◌≢◌, ◌⊎◌, ℕ, ◌<◌, List, [], ◌∷◌, ◌++◌, codes, length, if◌then◌else◌, ◌==◌}
-use Rattle.std.specs.List.{AllByRecursion, before_first}
+use Rattle.std.specs.Prelude.{◌≡◌, ◌≢◌, ◌⊎◌, ℕ, ◌<◌, List, [], ◌∷◌, ◌++◌, codes, length, if◌then◌else◌, ◌==◌, Ok, Err}
+use Rattle.std.specs.List.{AllByRecursion, before_first, flat_map}
+use Rattle.nc_types.specs.Config.{ConfigAt}
+use Rattle.nc_conf.specs.declared.read.ConfFault.TheVariants.{Rule}
+use Rattle.nc_conf.specs.Reading.{IsRead}
 
 -- a text is cut into lines at each LF, and the last line may end with the text
 abbrev pub onto_first : ℕ → List (List ℕ) → List (List ℕ)
@@ -23,17 +26,41 @@ HasRule text = (0 < length text) × (before_first (λ b. b == 10) text ≡ rule_
 abbrev pub LacksRule : List ℕ → Type 0
 LacksRule script = AllByRecursion (λ l. l ≢ rule_line) (lines_of script)
 
--- something stands before the first such line
-pub record IsConfigured (script : List ℕ) : Type 0 where
-  pub first : List ℕ
-  pub more : List (List ℕ)
-  pub made : List (List ℕ)
-  pub lines : lines_of script ≡ (first ∷ more) ++ rule_line ∷ made
-  pub none : AllByRecursion (λ l. l ≢ rule_line) (first ∷ more)
+-- the text of whole lines, each with its LF
+abbrev pub ended : List ℕ → List ℕ
+ended line = line ++ 10 ∷ []
 
--- the rule of configurations that a script breaks, and its place: without the line `---` its text isn't ended,
--- and until configurations are read each one that isn't empty begins with an unknown directive
+abbrev pub text_of : List (List ℕ) → List ℕ
+text_of lines = flat_map ended lines
+
+-- a line of a configuration: no LF stands in it, and it isn't the line `---`
+pub record IsBefore (line : List ℕ) : Type 0 where
+  pub whole : AllByRecursion (λ b. b ≢ 10) line
+  pub other : line ≢ rule_line
+
+-- the parts of a script: the whole lines of its configuration, the line `---`, and the lines that are made
+pub record AreParts (script : List ℕ) (before made : List (List ℕ)) : Type 0 where
+  pub rest : List ℕ
+  pub cut : script ≡ text_of before ++ rest
+  pub each : AllByRecursion IsBefore before
+  pub lines : lines_of rest ≡ rule_line ∷ made
+
+-- the parts of a script and its configuration
+pub record IsConfigured (script : List ℕ) (before made : List (List ℕ)) (config : ConfigAt) : Type 0 where
+  pub parts : AreParts script before made
+  pub read : IsRead (text_of before) (Ok config)
+
+-- a text breaks this rule of configurations first, at this place
+abbrev pub IsFaulty : List ℕ → ℕ → ℕ → Type 0
+IsFaulty text rule at = IsRead text (Err (Rule rule at))
+
+-- the configuration of a script does
+pub record HasFault (script : List ℕ) (rule at : ℕ) : Type 0 where
+  pub before : List (List ℕ)
+  pub made : List (List ℕ)
+  pub parts : AreParts script before made
+  pub read : IsFaulty (text_of before) rule at
+
+-- the rule of configurations that a script breaks first, and its place: without the line `---` its text isn't ended
 abbrev pub IsMisconfigured : List ℕ → ℕ → ℕ → Type 0
-IsMisconfigured script rule at =
-    (LacksRule script × (rule ≡ 2) × (at ≡ length script))
-    ⊎ (IsConfigured script × (rule ≡ 3) × (at ≡ 0))
+IsMisconfigured script rule at = (LacksRule script × (rule ≡ 2) × (at ≡ length script)) ⊎ HasFault script rule at

@@ -7,6 +7,7 @@ use Rattle.std.specs.List.{AllByRecursion, flat_map}
 use Rattle.std.specs.Option.{option_map}
 use Rattle.nc_types.specs.Id.{Id, is_past, no_id}
 use Rattle.nc_types.specs.Cursor.{CursorAt, cursor_id, cursor_of, moved}
+use Rattle.nc_types.specs.Settings.{SettingsAt}
 use Rattle.nc_types.specs.declared.start.Start.{Start}
 use Rattle.nc_types.specs.declared.start.Start.TheVariants.{Oldest, Newest, Given}
 use Rattle.nc_journal.specs.declared.word.ModeLine.TheVariants.{Direct}
@@ -106,9 +107,9 @@ surplus len messages = take (length messages - (len - 1)) messages
 abbrev pub AllExpired : List (List ℕ) → List Event → List Event → Type 0
 AllExpired cs whole h = (c : List ℕ) → (expired c whole h ≡ []) ⊎ HasName cs c
 
--- what a post orders: the default length and time-out, and no type
-abbrev pub order_of : List ℕ → Order
-order_of body = record { len = 10; timeout = 3600; ct = None; body = body }
+-- what a post orders: the length and the time-out of the settings, and no type
+abbrev pub order_of : SettingsAt → List ℕ → Order
+order_of base body = record { len = base.length; timeout = base.timeout; ct = None; body = body }
 
 -- the stored event of an order, by the local history of the owner
 abbrev pub stored_of : List ℕ → Order → ℕ → List Event → Event
@@ -119,10 +120,10 @@ abbrev pub StoresItsOrder : Type 0
 StoresItsOrder = (c : List ℕ) (order : Order) (members : ℕ) (h : List Event) → StoresOrder order (clock_of h) (stored_of c order members h)
 
 -- the events of a post, where these subscribers stand: what has expired leaves, then the oldest beyond the length, then the message is stored and sent
-abbrev pub told_post : List ℕ → List ℕ → List ℕ → List Event → List Event → List Event
-told_post c body ks whole h =
-    map (leaves c Expired) (expired c whole h) ++ map (leaves c Length) (surplus 10 (staying c whole h))
-    ++ stored_of c (order_of body) (length ks) h ∷ flat_map (sends_to c (stamp c h) h) ks ++ Quiet ∷ []
+abbrev pub told_post : SettingsAt → List ℕ → List ℕ → List ℕ → List Event → List Event → List Event
+told_post base c body ks whole h =
+    map (leaves c Expired) (expired c whole h) ++ map (leaves c Length) (surplus base.length (staying c whole h))
+    ++ stored_of c (order_of base body) (length ks) h ∷ flat_map (sends_to c (stamp c h) h) ks ++ Quiet ∷ []
 
 abbrev pub found_sends : ℕ → List ℕ → ℕ → Option Message → List Event
 found_sends k c look None = []
@@ -145,14 +146,14 @@ told_poll k c begin whole h =
     Subscribed 0 k None (c ∷ []) Direct begin 0 false ∷ Started 0 k (cursor_of from) ∷ map (leaves c Expired) (expired c whole h)
     ++ Looked 0 (polls_of h) 0 (polls_of h) c from (floor_of h) (found_id found) ∷ found_sends k c (polls_of h) found ++ Quiet ∷ []
 
--- the events that a line of the one worker tells after a history; a poll has one channel
-abbrev pub Tells : List Event → Line → List Event → Type 0
-Tells h Blank es = es ≡ []
-Tells h (Clock w t) es = es ≡ ClockEvent 0 t ∷ Quiet ∷ []
-Tells h (Reap w) es = (cs : List (List ℕ)) × AreInOrder cs × AllExpired cs h (own 0 h) × (es ≡ flat_map (λ c. map (leaves c Expired) (expired c h (own 0 h))) cs ++ Quiet ∷ [])
-Tells h (Post w c body) es = (ks : List ℕ) × AreStanding c (own 0 h) ks × (es ≡ told_post c body ks h (own 0 h))
-Tells h (Poll w k (c ∷ []) begin) es = es ≡ told_poll k c begin h (own 0 h)
-Tells h (Poll w k _ begin) es = ⊥
+-- the events that a line of the one worker tells after a history, by the settings; a poll has one channel
+abbrev pub Tells : SettingsAt → List Event → Line → List Event → Type 0
+Tells base h Blank es = es ≡ []
+Tells base h (Clock w t) es = es ≡ ClockEvent 0 t ∷ Quiet ∷ []
+Tells base h (Reap w) es = (cs : List (List ℕ)) × AreInOrder cs × AllExpired cs h (own 0 h) × (es ≡ flat_map (λ c. map (leaves c Expired) (expired c h (own 0 h))) cs ++ Quiet ∷ [])
+Tells base h (Post w c body) es = (ks : List ℕ) × AreStanding c (own 0 h) ks × (es ≡ told_post base c body ks h (own 0 h))
+Tells base h (Poll w k (c ∷ []) begin) es = es ≡ told_poll k c begin h (own 0 h)
+Tells base h (Poll w k _ begin) es = ⊥
 
 -- a poll takes a number that no earlier line used
 abbrev pub IsNew : List Event → Line → Type 0
@@ -170,7 +171,7 @@ new_number h text said = record {
 abbrev pub line_after : List Event → List ℕ → Judge Line
 line_after h text = next (line 1 text) (new_number h text)
 
--- the texts of some lines, made one after the other, lead from a history to another
-abbrev pub Leads : List Event → List (List ℕ) → List Event → Type 0
-Leads h [] after = after ≡ h
-Leads h (text ∷ texts) after = (l : Line) × (es : List Event) × (line_after h text).Says l × Tells h l es × Leads (onto es h) texts after
+-- the texts of some lines, made one after the other by the settings, lead from a history to another
+abbrev pub Leads : SettingsAt → List Event → List (List ℕ) → List Event → Type 0
+Leads base h [] after = after ≡ h
+Leads base h (text ∷ texts) after = (l : Line) × (es : List Event) × (line_after h text).Says l × Tells base h l es × Leads base (onto es h) texts after

@@ -1,6 +1,8 @@
 -- What the top call leaves, for each of its answers.
-use Rattle.std.specs.Prelude.{◌≡◌, ◌⊎◌, ℕ, ◌+◌, List, [], ◌∷◌, ◌++◌, codes, length, Option, Some, None}
+use Rattle.std.specs.Prelude.{◌≡◌, ◌⊎◌, ℕ, ◌+◌, List, [], ◌∷◌, ◌++◌, codes, length, Option, Some, None, IfSome}
 use Rattle.std.specs.Fmt.{decimal}
+use Rattle.nc_types.specs.Config.{ConfigAt}
+use Rattle.nc_conf.specs.Reading.{HasConfig}
 use Rattle.nc_journal.specs.declared.event.Event.{Event}
 use Rattle.nc_journal.specs.Lawful.{IsLawful}
 use Rattle.nc_journal.specs.Text.{text_of}
@@ -8,37 +10,48 @@ use Rattle.nc_replay.specs.declared.fault.Fault.{Fault}
 use Rattle.nc_replay.specs.declared.fault.Misconfigured.{Misconfigured as ConfigFault}
 use Rattle.nc_replay.specs.declared.command.End.{End}
 use Rattle.nc_replay.specs.declared.command.End.TheVariants.{Passed, Refused, Misconfigured}
-use Rattle.nc_replay.specs.Script.{lines_of, rule_line, IsMisconfigured}
+use Rattle.nc_replay.specs.declared.check.Verdict.{Verdict}
+use Rattle.nc_replay.specs.declared.check.Verdict.TheVariants.{Accepted, Rejected}
+use Rattle.nc_replay.specs.Script.{IsConfigured, IsFaulty, IsMisconfigured}
 use Rattle.nc_replay.specs.Told.{Leads, line_after}
 use Rattle.nc_replay.specs.Input.{Adds, AddsPrefix}
 
--- the words are the one command that there is
-abbrev pub IsCommand : List (List ℕ) → Type 0
-IsCommand words = words ≡ codes "replay" ∷ []
+-- the words are the command `replay`, or `check`
+abbrev pub IsReplay : List (List ℕ) → Type 0
+IsReplay words = words ≡ codes "replay" ∷ []
 
--- all lines of a script are made, and lead to this history
+abbrev pub IsCheck : List (List ℕ) → Type 0
+IsCheck words = words ≡ codes "check" ∷ []
+
+-- all lines of a script are made, with what its configuration sets, and lead to this history
 pub record Passes (script : List ℕ) (h : List Event) : Type 0 where
+  pub before : List (List ℕ)
   pub made : List (List ℕ)
-  pub lines : lines_of script ≡ rule_line ∷ made
-  pub leads : Leads [] made h
+  pub config : ConfigAt
+  pub configured : IsConfigured script before made config
+  pub leads : Leads config.base [] made h
 
 -- the first lines of a script are made, and lead to this history
 pub record Begins (script : List ℕ) (h : List Event) : Type 0 where
+  pub before : List (List ℕ)
   pub made : List (List ℕ)
   pub rest : List (List ℕ)
-  pub lines : lines_of script ≡ rule_line ∷ made ++ rest
-  pub leads : Leads [] made h
+  pub config : ConfigAt
+  pub configured : IsConfigured script before (made ++ rest) config
+  pub leads : Leads config.base [] made h
 
 -- the first lines are made and lead to this history, and the next one breaks a rule: the lines are counted from 1
 -- over the whole script, and the rule is the lowest that it breaks, at its place in the line
 pub record Fails (script : List ℕ) (h : List Event) (fault : Fault) : Type 0 where
+  pub before : List (List ℕ)
   pub made : List (List ℕ)
   pub bad : List ℕ
   pub rest : List (List ℕ)
-  pub lines : lines_of script ≡ rule_line ∷ made ++ bad ∷ rest
-  pub leads : Leads [] made h
+  pub config : ConfigAt
+  pub configured : IsConfigured script before (made ++ bad ∷ rest) config
+  pub leads : Leads config.base [] made h
   pub breaks : (line_after h bad).Breaks fault.rule fault.at
-  pub counted : fault.line ≡ length made + 2
+  pub counted : fault.line ≡ length before + length made + 2
 
 abbrev pub fault_text : Fault → List ℕ
 fault_text fault = codes "fault line=" ++ decimal fault.line ++ codes " rule=" ++ decimal fault.rule ++ codes " at=" ++ decimal fault.at ++ 10 ∷ []
@@ -46,8 +59,9 @@ fault_text fault = codes "fault line=" ++ decimal fault.line ++ codes " rule=" +
 abbrev pub misconfigured_text : ConfigFault → List ℕ
 misconfigured_text fault = codes "config rule=" ++ decimal fault.rule ++ codes " at=" ++ decimal fault.at ++ 10 ∷ []
 
-abbrev pub usage_text : List ℕ
-usage_text = codes "usage: nchan replay | check | load SEED SIZE | serve" ++ 10 ∷ []
+-- the line that tells of a configuration that is accepted
+abbrev pub accepted_text : ConfigAt → List ℕ
+accepted_text config = codes "ok workers=" ++ decimal config.workers ++ codes " locations=" ++ decimal (length config.locations) ++ 10 ∷ []
 
 -- the script is what the source had left, where it tells
 abbrev pub IsInput : List ℕ → Option (List ℕ) → Type 0
@@ -136,6 +150,58 @@ Misconfigures left old new = OfInput MisconfiguredText left old new
 
 abbrev pub CutsOff : Option (List ℕ) → Option (List ℕ) → Option (List ℕ) → Type 0
 CutsOff left old new = OfInput CutsOffSome left old new
+
+-- a configuration is accepted, which was written
+pub record AcceptsText (text : List ℕ) (old new : Option (List ℕ)) : Type 0 where
+  pub config : ConfigAt
+  pub read : HasConfig text config
+  pub written : Adds (accepted_text config) old new
+
+-- a configuration has a fault, which was written
+pub record RejectsText (text : List ℕ) (old new : Option (List ℕ)) : Type 0 where
+  pub fault : ConfigFault
+  pub faulty : IsFaulty text fault.rule fault.at
+  pub written : Adds (misconfigured_text fault) old new
+
+-- what a check leaves by its verdict
+abbrev pub JudgesAs : Verdict → List ℕ → Option (List ℕ) → Option (List ℕ) → Type 0
+JudgesAs Accepted text old new = AcceptsText text old new
+JudgesAs Rejected text old new = RejectsText text old new
+
+-- a prefix of the one or the other was written
+pub record CutsOffAccepted (text : List ℕ) (old new : Option (List ℕ)) : Type 0 where
+  pub config : ConfigAt
+  pub read : HasConfig text config
+  pub written : AddsPrefix (accepted_text config) old new
+
+pub record CutsOffRejected (text : List ℕ) (old new : Option (List ℕ)) : Type 0 where
+  pub fault : ConfigFault
+  pub faulty : IsFaulty text fault.rule fault.at
+  pub written : AddsPrefix (misconfigured_text fault) old new
+
+abbrev pub CutsOffVerdict : List ℕ → Option (List ℕ) → Option (List ℕ) → Type 0
+CutsOffVerdict text old new = CutsOffAccepted text old new ⊎ CutsOffRejected text old new
+
+-- status 0, 8 and 5 of a check
+abbrev pub Accepts : Option (List ℕ) → Option (List ℕ) → Option (List ℕ) → Type 0
+Accepts left old new = OfInput AcceptsText left old new
+
+abbrev pub Rejects : Option (List ℕ) → Option (List ℕ) → Option (List ℕ) → Type 0
+Rejects left old new = OfInput RejectsText left old new
+
+abbrev pub CutsOffCheck : Option (List ℕ) → Option (List ℕ) → Option (List ℕ) → Type 0
+CutsOffCheck left old new = OfInput CutsOffVerdict left old new
+
+-- the work stopped: reading or writing failed, the input is too long, or there was no memory
+abbrev pub IsStopped : ℕ → Type 0
+IsStopped n = (n ≡ 4) ⊎ ((n ≡ 5) ⊎ ((n ≡ 6) ⊎ (n ≡ 7)))
+
+-- status 8 comes, unless the work stopped, wherever a script or a configuration is refused
+abbrev pub MustRefuse : Option (List ℕ) → ℕ → Type 0
+MustRefuse left status = IfSome left (λ script. (rule at : ℕ) → IsMisconfigured script rule at → (status ≡ 8) ⊎ IsStopped status)
+
+abbrev pub MustReject : Option (List ℕ) → ℕ → Type 0
+MustReject left status = IfSome left (λ text. (rule at : ℕ) → IsFaulty text rule at → (status ≡ 8) ⊎ IsStopped status)
 
 -- a status of the top call
 abbrev pub IsStatus : ℕ → Type 0

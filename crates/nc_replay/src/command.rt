@@ -1,71 +1,24 @@
 //! The top call: it runs the command that the words are, over any source and any sink.
 //!
-//! `main` makes the real ones and calls it. Below stand the reading of the input and the replay of its lines.
-ghost use Rattle.std.specs.Prelude.{◌≡◌, ◌≢◌, ◌≤◌, ◌<◌, ◌⊎◌, ◌∷◌, ◌++◌, ◌↔◌, [], true, false, length, codes, map, string_bytes, IfOk, OnOk, OnErr, IsErrOf, IfNone, IfSome, IsTrue};
-ghost use Rattle.std.specs.Fmt.{decimal};
+//! `main` makes the real ones and calls it. Below stand the reading of the input, the plan of a script, the replay of its
+//! lines, and the check of a configuration.
+ghost use Rattle.std.specs.Prelude.{◌≡◌, ◌≢◌, ◌≤◌, ◌<◌, ◌⊎◌, length, map, string_bytes, IfOk, OnErr, IsErrOf, IfSome};
 ghost use Rattle.nc_outside.specs.Fault.{HasRisen};
+ghost use Rattle.nc_cli.specs.Words.{IsCommand, usage_text};
+ghost use Rattle.nc_cli.specs.declared.Command.TheVariants.{Replay, Check, Usage};
 ghost use Rattle.nc_replay.specs.Input.{Adds, AddsPrefix, IsTooLong};
-ghost use Rattle.nc_replay.specs.Script.{HasRule};
-ghost use Rattle.nc_replay.specs.Top.{IsCommand, fault_text, misconfigured_text, usage_text, IsDrained, Replays, Refuses, Misconfigures, CutsOff, EndsAs, CutsOffSome, IsStatus};
+ghost use Rattle.nc_replay.specs.Top.{IsReplay, IsCheck, IsDrained, Replays, Refuses, Misconfigures, Accepts, Rejects, CutsOff, CutsOffCheck, EndsAs, CutsOffSome, IsStatus, MustRefuse, MustReject};
 ghost use Rattle.nc_replay.specs.declared.replay.Stop.TheVariants.{Sink as SinkStop};
 
-use crate::fault::{Fault, Misconfigured};
+use crate::answer::{write_fault, write_misconfigured};
+use crate::check::check;
 use crate::input::{ReadFault, read_all, write_all};
+use crate::laws::one_configuration;
+use crate::plan::{PlanFault, plan_of};
 use crate::replay::{Stop, replay_lines};
-use crate::script::{misconfigured, rest_after};
+use nc_cli::{Command, read_words, usage};
 use nc_outside::{Sink, Source};
-use nc_types::NoMemory;
-use nc_types::text::put_decimal;
 use std::alloc::Global;
-
-const USAGE: &[u8] = b"usage: nchan replay | check | load SEED SIZE | serve\n";
-
-fn is_replay_word(word: &String) -> bool
-    ensures { IsTrue result ↔ (string_bytes word.now ≡ codes "replay") }
-{
-    word.as_bytes() == b"replay".as_slice()
-}
-
-/// Whether the words are the one command that there is.
-fn is_command(words: &[String]) -> bool
-    ensures { IsTrue result ↔ IsCommand (map string_bytes words.now) }
-{
-    match words {
-        [word] => is_replay_word(word),
-        _ => false,
-    }
-}
-
-/// A label and a number go behind a text.
-fn put_field(text: &mut Vec<u8>, label: &[u8], n: u64) -> Result<(), NoMemory>
-    ensures { OnOk result (text.new.items ≡ text.old.items ++ label.now ++ decimal n) }
-{
-    text.extend_from_slice(label)?;
-    put_decimal(text, n)
-}
-
-/// The line that names the first line that breaks a rule.
-fn fault_text(alloc: Global, fault: Fault) -> Result<Vec<u8>, NoMemory>
-    ensures { IfOk result (λ text. text.items ≡ fault_text fault) }
-{
-    let mut text = Vec::new(alloc);
-    put_field(&mut text, b"fault line=", fault.line)?;
-    put_field(&mut text, b" rule=", u64::from(fault.rule))?;
-    put_field(&mut text, b" at=", fault.at as u64)?;
-    text.push(b'\n')?;
-    Ok(text)
-}
-
-/// The line that names the fault before a script's lines.
-fn misconfigured_text(alloc: Global, fault: Misconfigured) -> Result<Vec<u8>, NoMemory>
-    ensures { IfOk result (λ text. text.items ≡ misconfigured_text fault) }
-{
-    let mut text = Vec::new(alloc);
-    put_field(&mut text, b"config rule=", u64::from(fault.rule))?;
-    put_field(&mut text, b" at=", fault.at as u64)?;
-    text.push(b'\n')?;
-    Ok(text)
-}
 
 /// How the replay of a script that could be written ends.
 #[derive(Clone, Copy, Debug, PartialEq, Eq)]
@@ -78,22 +31,6 @@ enum End {
     Misconfigured,
 }
 
-/// Makes the lines of a script, and writes the fault of the first that breaks a rule.
-fn replay_script<K: Sink>(alloc: Global, script: &[u8], out: &mut K) -> Result<End, Stop>
-    requires few { length script.now ≤ 67108864 }
-    requires parted { HasRule script.now }
-    ensures end { IfOk result (λ end. EndsAs end script.now (K.taken out.old) (K.taken out.new)) }
-    ensures some { OnErr result (CutsOffSome script.now (K.taken out.old) (K.taken out.new)) }
-    ensures cause { IsErrOf result SinkStop → HasRisen (K.faults out.old) (K.faults out.new) ⊎ HasRisen (K.refusals out.old) (K.refusals out.new) }
-{
-    let Some(fault) = replay_lines(alloc, rest_after(script), out)? else {
-        return Ok(End::Passed);
-    };
-    let text = fault_text(alloc, fault)?;
-    write_all(out, &text)?;
-    Ok(End::Refused)
-}
-
 /// Replays a script and writes its fault, if it has one.
 fn replay_text<K: Sink>(alloc: Global, script: &[u8], out: &mut K) -> Result<End, Stop>
     requires { length script.now ≤ 67108864 }
@@ -101,12 +38,19 @@ fn replay_text<K: Sink>(alloc: Global, script: &[u8], out: &mut K) -> Result<End
     ensures some { OnErr result (CutsOffSome script.now (K.taken out.old) (K.taken out.new)) }
     ensures cause { IsErrOf result SinkStop → HasRisen (K.faults out.old) (K.faults out.new) ⊎ HasRisen (K.refusals out.old) (K.refusals out.new) }
 {
-    let Some(fault) = misconfigured(script) else {
-        return replay_script(alloc, script, out);
+    let plan = match plan_of(alloc, script) {
+        Ok(plan) => plan,
+        Err(PlanFault::Misconfigured(fault)) => {
+            write_misconfigured(alloc, fault, out)?;
+            return Ok(End::Misconfigured);
+        }
+        Err(PlanFault::NoMemory) => return Err(Stop::NoMemory),
     };
-    let text = misconfigured_text(alloc, fault)?;
-    write_all(out, &text)?;
-    Ok(End::Misconfigured)
+    let Some(fault) = replay_lines(alloc, plan.base, plan.before, plan.lines, out)? else {
+        return Ok(End::Passed);
+    };
+    write_fault(alloc, fault, out)?;
+    Ok(End::Refused)
 }
 
 /// Reads a script from the input and replays it.
@@ -140,10 +84,42 @@ fn replay<S: Source, K: Sink>(alloc: Global, input: &mut S, out: &mut K) -> u8
     }
 }
 
+/// Runs a command, and gives the exit status.
+fn run<S: Source, K: Sink>(alloc: Global, command: Command, input: &mut S, out: &mut K) -> u8
+    ensures status { IsStatus result }
+    ensures passed { command ≡ Replay → result ≡ 0 → Replays (S.left input.old) (K.taken out.old) (K.taken out.new) }
+    ensures accepted { command ≡ Check → result ≡ 0 → Accepts (S.left input.old) (K.taken out.old) (K.taken out.new) }
+    ensures drained { (result ≡ 0) ⊎ ((result ≡ 3) ⊎ (result ≡ 8)) → IsDrained (S.left input.new) }
+    ensures usage { result ≡ 2 → (command ≡ Usage) × Adds usage_text (K.taken out.old) (K.taken out.new) }
+    ensures usage_always { command ≡ Usage → (result ≡ 2) ⊎ (result ≡ 5) }
+    ensures refused { result ≡ 3 → (command ≡ Replay) × Refuses (S.left input.old) (K.taken out.old) (K.taken out.new) }
+    ensures misconfigured { command ≡ Replay → result ≡ 8 → Misconfigures (S.left input.old) (K.taken out.old) (K.taken out.new) }
+    ensures rejected { command ≡ Check → result ≡ 8 → Rejects (S.left input.old) (K.taken out.old) (K.taken out.new) }
+    ensures unread { result ≡ 4 → HasRisen (S.faults input.old) (S.faults input.new) }
+    ensures unwritten { result ≡ 5 → HasRisen (K.faults out.old) (K.faults out.new) ⊎ HasRisen (K.refusals out.old) (K.refusals out.new) }
+    ensures cut_off { command ≡ Replay → result ≡ 5 → CutsOff (S.left input.old) (K.taken out.old) (K.taken out.new) }
+    ensures check_cut_off { command ≡ Check → result ≡ 5 → CutsOffCheck (S.left input.old) (K.taken out.old) (K.taken out.new) }
+    ensures usage_cut_off { command ≡ Usage → result ≡ 5 → AddsPrefix usage_text (K.taken out.old) (K.taken out.new) }
+    ensures out_of_memory { result ≡ 6 → (K.taken out.new ≡ K.taken out.old) ⊎ ((command ≡ Replay) × CutsOff (S.left input.old) (K.taken out.old) (K.taken out.new)) }
+    ensures too_long { result ≡ 7 → IsTooLong (S.left input.old) }
+    ensures too_long_always { command ≢ Usage → IfSome (S.left input.old) (λ bytes. 67108864 < length bytes → (result ≡ 7) ⊎ ((result ≡ 4) ⊎ (result ≡ 6))) }
+    ensures silent { (result ≡ 4) ⊎ (result ≡ 7) → K.taken out.new ≡ K.taken out.old }
+{
+    match command {
+        Command::Replay => replay(alloc, input, out),
+        Command::Check => check(alloc, input, out),
+        Command::Usage => match write_all(out, usage()) {
+            Ok(()) => 2,
+            Err(_) => 5,
+        },
+    }
+}
+
 /// Runs the command that the words are, and gives the exit status (docs/JOURNAL.md).
 ///
-/// `replay` reads the whole input first, at most 67,108,864 bytes, and writes the journal of its lines:
-/// - 0: every line was made;
+/// Both commands read the whole input first, at most 67,108,864 bytes.
+/// `replay` writes the journal of a script's lines, and `check` says whether a configuration is accepted:
+/// - 0: every line was made, or the configuration is accepted and `ok workers=N locations=M` was written;
 /// - 2: the words are no command, and the usage was written;
 /// - 3: a line breaks a rule, and `fault line=L rule=R at=P` stands behind the journal of those before it;
 /// - 4: the source failed; 5: the sink failed or took nothing; 6: there was no memory; 7: the input is longer;
@@ -151,28 +127,33 @@ fn replay<S: Source, K: Sink>(alloc: Global, input: &mut S, out: &mut K) -> u8
 pub fn top<S: Source, K: Sink>(alloc: Global, words: &[String], input: &mut S, out: &mut K) -> u8
     ensures status { IsStatus result }
 
-    // 0 comes only where all of the input was read and every line of it was made.
-    ensures passed { result ≡ 0 → Replays (S.left input.old) (K.taken out.old) (K.taken out.new) }
+    // 0 comes only where all of the input was read, and every line of it was made or it is accepted as a configuration.
+    ensures passed { IsReplay (map string_bytes words.now) → result ≡ 0 → Replays (S.left input.old) (K.taken out.old) (K.taken out.new) }
+    ensures accepted { IsCheck (map string_bytes words.now) → result ≡ 0 → Accepts (S.left input.old) (K.taken out.old) (K.taken out.new) }
     ensures drained { (result ≡ 0) ⊎ ((result ≡ 3) ⊎ (result ≡ 8)) → IsDrained (S.left input.new) }
 
     // 2 comes exactly where the words are no command, but where the usage can't be written.
     ensures usage { result ≡ 2 → (IsCommand (map string_bytes words.now) → ⊥) × Adds usage_text (K.taken out.old) (K.taken out.new) }
     ensures usage_always { (IsCommand (map string_bytes words.now) → ⊥) → (result ≡ 2) ⊎ (result ≡ 5) }
 
-    // 3 comes exactly at the first line that breaks a rule.
-    ensures refused { result ≡ 3 → Refuses (S.left input.old) (K.taken out.old) (K.taken out.new) }
+    // 3 comes exactly at the first line of a script that breaks a rule.
+    ensures refused { result ≡ 3 → IsReplay (map string_bytes words.now) × Refuses (S.left input.old) (K.taken out.old) (K.taken out.new) }
 
-    // 8 comes exactly where the configuration is refused, before any line is made.
-    ensures misconfigured { result ≡ 8 → Misconfigures (S.left input.old) (K.taken out.old) (K.taken out.new) }
+    // 8 comes exactly where the configuration is refused, before any line is made, but where the work stopped.
+    ensures misconfigured { IsReplay (map string_bytes words.now) → result ≡ 8 → Misconfigures (S.left input.old) (K.taken out.old) (K.taken out.new) }
+    ensures misconfigured_always { IsReplay (map string_bytes words.now) → MustRefuse (S.left input.old) result }
+    ensures rejected { IsCheck (map string_bytes words.now) → result ≡ 8 → Rejects (S.left input.old) (K.taken out.old) (K.taken out.new) }
+    ensures rejected_always { IsCheck (map string_bytes words.now) → MustReject (S.left input.old) result }
 
     // 4 comes only where the source's count rose, 5 only where one of the sink's did, with a prefix of the text.
     ensures unread { result ≡ 4 → HasRisen (S.faults input.old) (S.faults input.new) }
     ensures unwritten { result ≡ 5 → HasRisen (K.faults out.old) (K.faults out.new) ⊎ HasRisen (K.refusals out.old) (K.refusals out.new) }
-    ensures cut_off { result ≡ 5 → IsCommand (map string_bytes words.now) → CutsOff (S.left input.old) (K.taken out.old) (K.taken out.new) }
-    ensures usage_cut_off { result ≡ 5 → (IsCommand (map string_bytes words.now) → ⊥) → AddsPrefix usage_text (K.taken out.old) (K.taken out.new) }
+    ensures cut_off { IsReplay (map string_bytes words.now) → result ≡ 5 → CutsOff (S.left input.old) (K.taken out.old) (K.taken out.new) }
+    ensures check_cut_off { IsCheck (map string_bytes words.now) → result ≡ 5 → CutsOffCheck (S.left input.old) (K.taken out.old) (K.taken out.new) }
+    ensures usage_cut_off { (IsCommand (map string_bytes words.now) → ⊥) → result ≡ 5 → AddsPrefix usage_text (K.taken out.old) (K.taken out.new) }
 
-    // 6 leaves a prefix of the text of a lawful journal.
-    ensures out_of_memory { result ≡ 6 → (K.taken out.new ≡ K.taken out.old) ⊎ CutsOff (S.left input.old) (K.taken out.old) (K.taken out.new) }
+    // 6 leaves nothing, or a prefix of the text of a lawful journal.
+    ensures out_of_memory { result ≡ 6 → (K.taken out.new ≡ K.taken out.old) ⊎ (IsReplay (map string_bytes words.now) × CutsOff (S.left input.old) (K.taken out.old) (K.taken out.new)) }
 
     // 7 comes exactly where the input is longer than 67,108,864 bytes, but where reading it failed.
     ensures too_long { result ≡ 7 → IsTooLong (S.left input.old) }
@@ -181,11 +162,7 @@ pub fn top<S: Source, K: Sink>(alloc: Global, words: &[String], input: &mut S, o
     // After 4 and 7 nothing was written.
     ensures silent { (result ≡ 4) ⊎ (result ≡ 7) → K.taken out.new ≡ K.taken out.old }
 {
-    if is_command(words) {
-        return replay(alloc, input, out);
-    }
-    match write_all(out, USAGE) {
-        Ok(()) => 2,
-        Err(_) => 5,
-    }
+    // no script is both configured and refused, so 8 comes always
+    one_configuration();
+    run(alloc, read_words(words), input, out)
 }

@@ -2,29 +2,23 @@
 //!
 //! A channel has a buffer of messages and the subscribers that wait, and the channels stand in ascending order of name.
 //! Each call is a pure step, defined in `specs/Machine.antt`, over the state that contracts see.
-ghost use Rattle.std.specs.Prelude.{◌≡◌, ◌∷◌, ◌++◌, [], ◌<◌, ◌≤◌, length, map, IfOk, OnOk, MatchResult, None, Some, filter};
+ghost use Rattle.std.specs.Prelude.{◌≡◌, ◌∷◌, ◌++◌, [], ◌<◌, ◌≤◌, ◌-◌, length, map, IfOk, OnOk, MatchResult, None, Some, filter};
 ghost use Rattle.std.specs.List.{flat_map};
 ghost use Rattle.nc_types.specs.Id.{Id, no_id, is_past};
 ghost use Rattle.nc_types.specs.Cursor.{cursor_id, cursor_of};
-ghost use Rattle.nc_journal.specs.Stamp.{next_id};
+ghost use Rattle.nc_journal.specs.Stamp.{next_id, expiry};
 ghost use Rattle.nc_journal.specs.declared.event.Event.TheVariants.{Looked, Quiet};
 ghost use Rattle.nc_journal.specs.declared.word.LeftCause.TheVariants.{Length, Expired};
 ghost use Rattle.nc_buffer.specs.Buffer.{IsPastAll};
 ghost use Rattle.nc_replay.specs.Told.{sends, start_id, AreInOrder};
-ghost use Rattle.nc_replay.specs.Machine.{Fits, no_channel, first_id, enter, place_among, is_before, names_of, IsPlaceOf, IsPlaceFrom, IsPlaceFor, stored_in, shortened, touched, polled, is_unsent, expired_of, staying_of, surplus_of, within_of, entry_left, channel_left, sends_waiting, stored_events, look_events, begins, start, clock_events, post_events, poll_events, reap_events, after_clock, after_post, after_poll, after_reap};
+ghost use Rattle.nc_replay.specs.Machine.{Fits, no_channel, first_id, enter, place_among, is_before, names_of, IsPlaceOf, IsPlaceFrom, IsPlaceFor, stored_in, shortened, touched, polled, is_unsent, expired_of, staying_of, surplus_of, within_of, kept_in, entry_left, channel_left, sends_waiting, stored_events, look_events, begins, start, clock_events, post_events, poll_events, reap_events, after_clock, after_post, after_poll, after_reap};
 
 use nc_buffer::{Buffer, Entry};
 use nc_journal::{EndedCause, Event, EventList, LeftCause, ModeLine};
-use nc_types::{Bytes, ChanList, ChanName, Cursor, List, MsgId, NoMemory, Start};
+use nc_types::{Bytes, ChanList, ChanName, Cursor, List, MsgId, NoMemory, Settings, Start};
 use std::alloc::Global;
 use std::marker::Model;
 use std::mem;
-
-/// How many messages a channel keeps.
-const LENGTH: usize = 10;
-
-/// How long a message is kept, in seconds.
-const TIMEOUT: u64 = 3_600;
 
 /// A subscriber that stands behind an id, with the number of its look.
 #[derive(Clone, Copy)]
@@ -90,6 +84,18 @@ fn next_id(now: u64, last: MsgId) -> MsgId
     }
 }
 
+/// The second at which a message expires that is stored now. By a time-out of 0 it never does.
+fn expiry(now: u64, base: &Settings) -> u64
+    requires { now ≤ 4102444800 }
+    ensures { result ≡ expiry now base.now.timeout }
+{
+    if base.timeout == 0 {
+        0
+    } else {
+        now + base.timeout
+    }
+}
+
 /// The id of the first entry past another.
 fn first_id(buffer: &Buffer, from: &MsgId) -> Option<MsgId>
     ensures { result ≡ first_id from.now buffer.now }
@@ -133,22 +139,46 @@ fn put_expired(
     Ok(())
 }
 
+/// How many messages a channel keeps beside one more.
+fn kept_beside(base: &Settings) -> usize
+    ensures { result ≡ base.now.length - 1 }
+{
+    base.length.saturating_sub(1) as usize
+}
+
 /// The oldest beyond the length less one leave.
 fn put_surplus(
     events: &mut Vec<Event>,
     name: &ChanName,
     buffer: &mut Buffer,
+    base: &Settings,
 ) -> Result<(), NoMemory>
-    ensures events { OnOk result (events.new.items ≡ events.old.items ++ map (entry_left name.now Length) (surplus_of 10 buffer.old)) }
-    ensures buffer { OnOk result (buffer.new ≡ within_of 10 buffer.old) }
+    ensures events { OnOk result (events.new.items ≡ events.old.items ++ map (entry_left name.now Length) (surplus_of base.now.length buffer.old)) }
+    ensures buffer { OnOk result (buffer.new ≡ within_of base.now.length buffer.old) }
 {
-    let surplus = buffer.len().saturating_sub(LENGTH - 1);
+    let surplus = buffer.len().saturating_sub(kept_beside(base));
     for _ in 0..surplus {
         if let Some(entry) = buffer.drop_oldest() {
             put_left(events, name, &entry, LeftCause::Length)?;
         }
     }
     Ok(())
+}
+
+/// A message is put behind the others, which isn't kept where the length is 0.
+fn keep(buffer: &mut Buffer, base: &Settings, id: MsgId, expires: u64) -> Result<(), NoMemory>
+    requires { IsPastAll id buffer.old }
+    ensures { OnOk result (buffer.new ≡ kept_in base.now.length id expires buffer.old) }
+{
+    if base.length == 0 {
+        return Ok(());
+    }
+    buffer.store(Entry {
+        id,
+        slot: 0,
+        expires,
+        grants: 0,
+    })
 }
 
 /// A subscriber that was sent its one message, and its end, go onto the events.
@@ -286,11 +316,11 @@ impl Channel {
     }
 
     /// The oldest leave that are too many for one more.
-    fn shorten(&mut self, events: &mut Vec<Event>) -> Result<(), NoMemory>
-        ensures channel { OnOk result (self.new ≡ shortened self.old) }
-        ensures events { OnOk result (events.new.items ≡ events.old.items ++ map (entry_left self.old.name Length) (surplus_of 10 self.old.buffer)) }
+    fn shorten(&mut self, events: &mut Vec<Event>, base: &Settings) -> Result<(), NoMemory>
+        ensures channel { OnOk result (self.new ≡ shortened base.now.length self.old) }
+        ensures events { OnOk result (events.new.items ≡ events.old.items ++ map (entry_left self.old.name Length) (surplus_of base.now.length self.old.buffer)) }
     {
-        put_surplus(events, &self.name, &mut self.buffer)
+        put_surplus(events, &self.name, &mut self.buffer, base)
     }
 
     /// A message, by its number among the posts, and its sends go onto the events.
@@ -298,21 +328,22 @@ impl Channel {
         &self,
         alloc: Global,
         events: &mut Vec<Event>,
+        base: &Settings,
         id: MsgId,
         expires: u64,
         number: u64,
         body: Bytes,
     ) -> Result<(), NoMemory>
-        ensures { OnOk result (events.new.items ≡ events.old.items ++ stored_events id expires number body self.now) }
+        ensures { OnOk result (events.new.items ≡ events.old.items ++ stored_events base.now.length id expires number body self.now) }
     {
         events.push(Event::Stored {
             w: 0,
             c: self.name.copied()?,
             id,
             slot: 0,
-            len: LENGTH as u64,
+            len: u64::from(base.length),
             exp: expires,
-            kept: true,
+            kept: base.length != 0,
             members: self.waiting.len() as u64,
             from: 0,
             r: number,
@@ -323,16 +354,17 @@ impl Channel {
     }
 
     /// A message is put behind the others, and those to whom it is sent wait no longer.
-    fn store(&mut self, alloc: Global, id: MsgId, expires: u64) -> Result<(), NoMemory>
+    fn store(
+        &mut self,
+        alloc: Global,
+        base: &Settings,
+        id: MsgId,
+        expires: u64,
+    ) -> Result<(), NoMemory>
         requires { IsPastAll id self.old.buffer }
-        ensures { OnOk result (self.new ≡ stored_in id expires self.old) }
+        ensures { OnOk result (self.new ≡ stored_in base.now.length id expires self.old) }
     {
-        self.buffer.store(Entry {
-            id,
-            slot: 0,
-            expires,
-            grants: 0,
-        })?;
+        keep(&mut self.buffer, base, id, expires)?;
         self.last = id;
         let mut waiting = mem::replace(&mut self.waiting, List::new(alloc)).into_vec();
         keep_unsent(&mut waiting, &id);
@@ -472,10 +504,11 @@ fn ended(mut events: Vec<Event>) -> Result<EventList, NoMemory>
     })
 }
 
-/// The engine: one worker with its clock, its floor and its channels.
+/// The engine: one worker with the settings of its channels, its clock, its floor and its channels.
 #[derive(Drop)]
 pub struct Engine {
     alloc: Global,
+    base: Settings,
     clock: u64,
     floor: u64,
     posts: u64,
@@ -488,16 +521,17 @@ impl Model for Engine {
 
     ghost Value = { State };
 
-    ghost view = { λ e. record { clock = e.clock; floor = e.floor; posts = e.posts; polls = e.polls; channels = e.channels.items } };
+    ghost view = { λ e. record { base = e.base; clock = e.clock; floor = e.floor; posts = e.posts; polls = e.polls; channels = e.channels.items } };
 }
 
 impl Engine {
-    /// An engine that has done nothing.
-    pub fn new(alloc: Global) -> Engine
-        ensures { result ≡ start }
+    /// An engine that has done nothing, whose channels keep messages by these settings.
+    pub fn new(alloc: Global, base: Settings) -> Engine
+        ensures { result ≡ start base }
     {
         Engine {
             alloc,
+            base,
             clock: 0,
             floor: 0,
             posts: 0,
@@ -526,12 +560,21 @@ impl Engine {
         let at = place_for(self.alloc, &mut self.channels, name)?;
         let channel = &mut self.channels[at];
         let id = next_id(self.clock.max(self.floor), channel.last);
-        let expires = self.clock + TIMEOUT;
+        let base = self.base;
+        let expires = expiry(self.clock, &base);
         let mut events = Vec::new(self.alloc);
         channel.touch(&mut events, self.clock)?;
-        channel.shorten(&mut events)?;
-        channel.put_stored(self.alloc, &mut events, id, expires, self.posts, body)?;
-        channel.store(self.alloc, id, expires)?;
+        channel.shorten(&mut events, &base)?;
+        channel.put_stored(
+            self.alloc,
+            &mut events,
+            &base,
+            id,
+            expires,
+            self.posts,
+            body,
+        )?;
+        channel.store(self.alloc, &base, id, expires)?;
         self.floor = self.floor.max(id.time);
         self.posts += 1;
         ended(events)

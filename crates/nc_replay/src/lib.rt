@@ -1,19 +1,19 @@
-//! The replay: a script comes in, its lines are made, and the journal goes out.
+//! The commands: a script comes in, its lines are made, and the journal goes out; or a configuration is judged.
 //!
-//! Below stand `nc_types`, `nc_outside`, `nc_journal`, `nc_buffer` and `nc_script`; above stands the program.
+//! Below stand `nc_cli`, `nc_conf`, `nc_script`, `nc_buffer`, `nc_journal`, `nc_outside` and `nc_types`; above stands the
+//! program.
 #![tactic(auto)]
 
+mod answer;
+mod check;
 mod command;
 mod engine;
 mod fault;
 mod input;
 mod laws;
+mod plan;
 mod replay;
 mod script;
-#[cfg(test)]
-mod tests;
-#[cfg(test)]
-mod top_tests;
 
 pub use command::top;
-pub use laws::post_stores_its_order;
+pub use laws::{one_configuration, post_stores_its_order};

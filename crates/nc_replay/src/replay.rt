@@ -17,7 +17,7 @@ use crate::script::{first_line, rest_after};
 use nc_journal::{EventList, put_lines};
 use nc_outside::{Failed, Sink};
 use nc_script::{Line, LineFault, place_of, read_line};
-use nc_types::{ChanList, ChanName, List, NoMemory};
+use nc_types::{ChanList, ChanName, List, NoMemory, Settings};
 use std::alloc::{AllocError, Global};
 
 /// How many workers there are.
@@ -121,22 +121,30 @@ fn text_of(alloc: Global, done: &EventList) -> Result<Vec<u8>, NoMemory>
     Ok(text)
 }
 
-/// Makes the lines of a text behind a script's first line, and writes the events of each.
+/// Makes the lines of a text by the settings of a configuration, and writes the events of each.
 ///
+/// So many lines of the script stand before the text: at most 67,108,864.
 /// It gives what is wrong with the first line that breaks a rule, if one does.
-pub fn replay_lines<K: Sink>(alloc: Global, text: &[u8], out: &mut K) -> Result<Option<Fault>, Stop>
-    requires { length text.now ≤ 67108864 }
-    ensures all { IfOk result (λ fault. IfNone fault (MakesAll (lines_of text.now) (K.taken out.old) (K.taken out.new))) }
-    ensures until { IfOk result (λ fault. IfSome fault (MakesUntil (lines_of text.now) (K.taken out.old) (K.taken out.new))) }
-    ensures some { OnErr result (MakesSome (lines_of text.now) (K.taken out.old) (K.taken out.new)) }
+pub fn replay_lines<K: Sink>(
+    alloc: Global,
+    base: Settings,
+    before: u64,
+    text: &[u8],
+    out: &mut K,
+) -> Result<Option<Fault>, Stop>
+    requires few { length text.now ≤ 67108864 }
+    requires few_before { before ≤ 67108864 }
+    ensures all { IfOk result (λ fault. IfNone fault (MakesAll base (lines_of text.now) (K.taken out.old) (K.taken out.new))) }
+    ensures until { IfOk result (λ fault. IfSome fault (MakesUntil base before (lines_of text.now) (K.taken out.old) (K.taken out.new))) }
+    ensures some { OnErr result (MakesSome base (lines_of text.now) (K.taken out.old) (K.taken out.new)) }
     ensures cause { IsErrOf result SinkStop → HasRisen (K.faults out.old) (K.faults out.new) ⊎ HasRisen (K.refusals out.old) (K.refusals out.new) }
     ensures counted { K.faults out.old ≤ K.faults out.new }
     ensures refusals_counted { K.refusals out.old ≤ K.refusals out.new }
 {
-    let mut engine = Engine::new(alloc);
+    let mut engine = Engine::new(alloc, base);
     let mut used = Vec::new(alloc);
     let mut rest = text;
-    let mut number = 2;
+    let mut number = before + 1;
     while rest.len() > 0 {
         let line = match admit(alloc, &used, first_line(rest)) {
             Ok(line) => line,

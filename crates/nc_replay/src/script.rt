@@ -1,11 +1,10 @@
 //! How a text is cut into lines, and where the lines of a script begin.
 //!
 //! Nothing is copied. What a line says is read by `nc_script`; above stands the replay.
-ghost use Rattle.std.specs.Prelude.{◌≡◌, ◌↔◌, ◌∷◌, ◌<◌, ◌≤◌, ◌==◌, length, position, IsTrue, IfSome, MatchOption};
+ghost use Rattle.std.specs.Prelude.{◌≡◌, ◌↔◌, ◌∷◌, ◌<◌, ◌≤◌, ◌==◌, length, position, IsTrue, IfSome, IfNone};
 ghost use Rattle.std.specs.List.{position_or_len, before_first, after_first};
-ghost use Rattle.nc_replay.specs.Script.{lines_of, HasRule, LacksRule, IsMisconfigured};
-
-use crate::fault::Misconfigured;
+ghost use Rattle.nc_replay.specs.Script.{lines_of, HasRule, LacksRule};
+ghost use Rattle.nc_replay.specs.Plan.{HasParts};
 
 /// The line that ends a script's configuration.
 const RULE: &[u8] = b"---";
@@ -45,38 +44,43 @@ pub fn rest_after(text: &[u8]) -> &[u8]
 }
 
 /// Whether the first line of a text is the one that ends a configuration.
-pub fn has_rule(text: &[u8]) -> bool
+fn has_rule(text: &[u8]) -> bool
     ensures { IsTrue result ↔ HasRule text.now }
 {
     text.len() > 0 && first_line(text) == RULE
 }
 
-/// Whether no line of a text is that line.
-fn lacks_rule(text: &[u8]) -> bool
-    ensures { IsTrue result ↔ LacksRule text.now }
-{
-    let mut rest = text;
-    while rest.len() > 0 {
-        if has_rule(rest) {
-            return false;
-        }
-        rest = rest_after(rest);
-    }
-    true
+/// The parts of a script.
+#[derive(Clone, Copy)]
+pub struct Parts<'t> {
+    /// The text of its configuration.
+    pub config: &'t [u8],
+    /// The lines that are made.
+    pub lines: &'t [u8],
+    /// How many lines stand before those.
+    pub before: u64,
 }
 
-/// What is wrong with the configuration of a script: it has to be empty until configurations are read.
-pub fn misconfigured(script: &[u8]) -> Option<Misconfigured>
-    ensures { MatchOption result (HasRule script.now) (λ fault. IsMisconfigured script.now fault.rule fault.at) }
+/// The parts of a script; None where no line of it is `---`.
+pub fn parts_of(script: &[u8]) -> Option<Parts<'_>>
+    requires { length script.now ≤ 67108864 }
+    ensures parts { IfSome result (λ parts. HasParts script.now parts.config.now parts.lines.now parts.before) }
+    ensures within { IfSome result (λ parts. length parts.lines.now ≤ length script.now) }
+    ensures few { IfSome result (λ parts. parts.before ≤ length script.now) }
+    ensures none { IfNone result (LacksRule script.now) }
 {
-    if has_rule(script) {
-        return None;
+    let mut rest = script;
+    let mut before = 0;
+    while rest.len() > 0 {
+        if has_rule(rest) {
+            return Some(Parts {
+                config: &script[..script.len() - rest.len()],
+                lines: rest_after(rest),
+                before: before + 1,
+            });
+        }
+        rest = rest_after(rest);
+        before += 1;
     }
-    if lacks_rule(script) {
-        return Some(Misconfigured {
-            rule: 2,
-            at: script.len(),
-        });
-    }
-    Some(Misconfigured { rule: 3, at: 0 })
+    None
 }

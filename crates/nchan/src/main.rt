@@ -4,6 +4,8 @@
 #![tactic(auto)]
 
 mod standard;
+#[cfg(test)]
+mod top_tests;
 
 use standard::{StdSink, StdSource};
 use std::process::ExitCode;

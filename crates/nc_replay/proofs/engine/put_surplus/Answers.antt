@@ -24,10 +24,10 @@ loop-preserved c =
 
 pub returns-clause-events : goal.returns-clause-events
 returns-clause-events c =
-    let all : c.loop.counter ≡ length c.args.buffer.now - 9 = omega arith in
+    let all : c.loop.counter ≡ length c.args.buffer.now - (c.args.base.now.length - 1) = omega arith in
     c.loop.invariant.told ∙ ap (λ n. c.args.events.now.items ++ map (entry_left c.args.name.now Length) (take n c.args.buffer.now)) all
 
 pub returns-clause-buffer : goal.returns-clause-buffer
 returns-clause-buffer c =
-    let all : c.loop.counter ≡ length c.args.buffer.now - 9 = omega arith in
+    let all : c.loop.counter ≡ length c.args.buffer.now - (c.args.base.now.length - 1) = omega arith in
     c.loop.invariant.left ∙ ap (λ n. drop n c.args.buffer.now) all

@@ -5,7 +5,7 @@ use Rattle.nc_replay.proofs.replay.replay_lines.Given as goal
 
 abbrev pub invariant-loop-rest : goal.invariant-loop-rest
 invariant-loop-rest g l = record {
-  made : Made (g.K.Sink.taken l.fn.out) (g.K.Sink.taken l.out) (lines_of l.fn.text) l.engine l.used.items l.number l.rest (length l.fn.text);
+  made : Made l.fn.base l.fn.before (g.K.Sink.taken l.fn.out) (g.K.Sink.taken l.out) (lines_of l.fn.text) l.engine l.used.items l.number l.rest (length l.fn.text);
   counted : g.K.Sink.faults l.fn.out ≤ g.K.Sink.faults l.out;
   refusals : g.K.Sink.refusals l.fn.out ≤ g.K.Sink.refusals l.out;
 }

@@ -8,7 +8,7 @@ use Rattle.nc_replay.proofs.engine.Engine.poll.Goals as goal
 
 pub returns-clause-events : goal.returns-clause-events
 returns-clause-events c =
-    let inside : State = record { clock = c.self.inside.clock; floor = c.self.inside.floor; posts = c.self.inside.posts; polls = c.self.inside.polls; channels = c.self.inside.channels.items } in
+    let inside : State = record { base = c.self.inside.base; clock = c.self.inside.clock; floor = c.self.inside.floor; posts = c.self.inside.posts; polls = c.self.inside.polls; channels = c.self.inside.channels.items } in
     let here = channel-at c.args.name.now c.self.inside.channels.items c.place_for.new.channels.items c.in_ok-at.at c.index_mut-channel.result.now c.in_ok-at.ensures c.index_mut-channel.ensures.value in
     IfOk-weaker c.ended.result _ _
     (λ done told. poll-told c.args.k c.args.name.now c.args.start c.start_id-from.result inside c.index_mut-channel.result.now c.touch.new.self _ _ _ _ _

@@ -1,0 +1,7 @@
+use Rattle.nc_replay.specs.Top.{fault_text}
+use Rattle.nc_replay.proofs.Loop.{always-err}
+use Rattle.nc_replay.proofs.Ends.{adds-none}
+use Rattle.nc_replay.proofs.answer.write_fault.Goals as goal
+
+pub returns-in_err-text-clause-prefix : goal.returns-in_err-text-clause-prefix
+returns-in_err-text-clause-prefix g c = always-err _ _ (adds-none (fault_text c.args.fault) (g.K.Sink.taken c.args.out.now))
