@@ -7,7 +7,7 @@ use Rattle.std.proofs.lemmas.Grind.{common_steps}
 use Rattle.std.proofs.lemmas.List.Elements.{filter-append}
 use Rattle.std.proofs.lemmas.List.{map-append}
 use Rattle.nc_types.specs.declared.request.Field.{Field}
-use Rattle.nc_accept.specs.Fields.{is_called, value_of, values, only}
+use Rattle.nc_accept.specs.Fields.{is_called, value_of, values, only, first}
 
 values-append : (name : List ℕ) (before after : List Field) → values name (before ++ after) ≡ values name before ++ values name after
 values-append name before after = ap (map value_of) (filter-append (is_called name) before after) ∙ map-append value_of (filter (is_called name) before) (filter (is_called name) after)
@@ -28,3 +28,11 @@ pub second_at : (name : List ℕ) (fields : List Field) (i : ℕ) (field : Field
 second_at name fields i field None within at one some called = cc
 second_at name fields i field (Some value) within at one some called =
     sym (ap (λ (all : List Field). only (values name all)) (cut_at fields i field within at) ∙ second_value name (take i fields) field (drop (i + 1) fields) value (sym one) called)
+
+-- a field of the name at a place, before which there is none
+pub first_at : (name : List ℕ) (fields : List Field) (i : ℕ) (field : Field) → i < length fields → field ≡ slice_index_or fields i field → values name (take i fields) ≡ [] → is_called name field ≡ true → Some field.value ≡ first (values name fields)
+first_at name fields i field within at none called =
+    sym (ap (λ (all : List Field). first (values name all)) (cut_at fields i field within at)
+    ∙ ap first (values-append name (take i fields) (field ∷ drop (i + 1) fields)
+    ∙ ap (λ vs. vs ++ values name (field ∷ drop (i + 1) fields)) none
+    ∙ values_called name field (drop (i + 1) fields) called))

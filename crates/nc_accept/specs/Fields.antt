@@ -60,3 +60,8 @@ abbrev pub only : List (List ℕ) → Option (List ℕ)
 only [] = None
 only (text ∷ []) = Some text
 only (text ∷ other ∷ texts) = None
+
+-- the first text of a list that has one
+abbrev pub first : List (List ℕ) → Option (List ℕ)
+first [] = None
+first (text ∷ texts) = Some text

@@ -4,7 +4,7 @@
 ghost use Rattle.std.specs.Prelude.{◌≡◌, ◌≤◌, ◌&&◌, length};
 ghost use Rattle.std.specs.List.{prefix_len};
 ghost use Rattle.std.specs.Option.{option_copied};
-ghost use Rattle.nc_accept.specs.Fields.{is_same_word, is_same, is_blank, freed, items_of, is_called, values, items, is_among, is_word_among, only};
+ghost use Rattle.nc_accept.specs.Fields.{is_same_word, is_same, is_blank, freed, items_of, is_called, values, items, is_among, is_word_among, only, first};
 
 use nc_types::Field;
 
@@ -123,4 +123,16 @@ pub fn only_value<'f>(name: &[u8], fields: &'f [Field]) -> Option<&'f [u8]>
         }
     }
     found
+}
+
+/// The value of the first field of a name; None where no field has it.
+pub fn first_value<'f>(name: &[u8], fields: &'f [Field]) -> Option<&'f [u8]>
+    ensures { option_copied result ≡ first (values name.now fields.now) }
+{
+    for field in fields {
+        if is_called(name, field) {
+            return Some(field.value.as_slice());
+        }
+    }
+    None
 }

@@ -1,5 +1,5 @@
 //! Openings and fields written out by hand; the key is the sample of RFC 6455, section 1.3.
-use crate::fields::{freed, has_item, has_word, is_called, is_same_word, only_value};
+use crate::fields::{first_value, freed, has_item, has_word, is_called, is_same_word, only_value};
 use crate::{HandRefusal, judge};
 use nc_types::{Bytes, Field, List, NoMemory, Request};
 use std::alloc::Global;
@@ -138,6 +138,11 @@ fn fields_are_read_by_name(rt: HostRuntime) -> Result<(), Fail> {
     assert_eq!(rt; only_value(b"date", fields), None);
     assert_eq!(rt; only_value(b"accept", fields), None);
     assert_eq!(rt; only_value(b"HOST", fields), Some(b"x".as_slice()));
+    assert_eq!(rt; first_value(b"date", fields), None);
+    assert_eq!(rt;
+        first_value(b"ACCEPT", fields),
+        Some(b"text/html".as_slice())
+    );
     assert_eq!(rt; freed(b"\t a b \t"), b"a b".as_slice());
     assert_eq!(rt; freed(b" \t"), b"".as_slice());
     assert!(rt; is_same_word(b"Upgrade", b"uPGRADE"), "case");

@@ -1,0 +1,5 @@
+pub mod Places
+pub mod Starts
+pub mod Steps
+pub mod One
+pub mod Sound

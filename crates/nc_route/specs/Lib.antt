@@ -1,0 +1,6 @@
+pub mod Place
+pub mod Query
+pub mod Begin
+pub mod Rules
+pub mod Steps
+pub mod Laws
