@@ -36,7 +36,11 @@ fn configurations_are_judged(rt: HostRuntime) -> Result<(), Fail> {
         ("", 0, "ok workers=1 locations=0\n"),
         ("---", 8, "config rule=2 at=3\n"),
         ("worker_processes 17;", 8, "config rule=7 at=17\n"),
-        ("http { server { location /a { nchan_publisher; } } }", 8, "config rule=14 at=47\n"),
+        (
+            "http { server { location /a { nchan_publisher; } } }",
+            8,
+            "config rule=14 at=47\n",
+        ),
     ] {
         let (got, out) = checked(rt.alloc(), text, 1)?;
         assert_eq!(rt; got, status, "{text}");

@@ -99,7 +99,10 @@ fn lines_are_counted_behind_the_configuration(rt: HostRuntime) -> Result<(), Fai
     for (script, text) in [
         ("---\nx", "fault line=2 rule=2 at=0\n"),
         ("\n---\nx", "fault line=3 rule=2 at=0\n"),
-        ("# a\nhttp {\n}\n---\n\nclock 0 x\n", "fault line=6 rule=4 at=8\n"),
+        (
+            "# a\nhttp {\n}\n---\n\nclock 0 x\n",
+            "fault line=6 rule=4 at=8\n",
+        ),
     ] {
         let (status, out) = replayed(rt.alloc(), script)?;
         assert_eq!(rt; status, 3, "{script}");
