@@ -1,0 +1,17 @@
+pub mod Backlogs
+pub mod Pools
+pub mod Polls
+pub mod Leaves
+pub mod Carried
+pub mod Storing
+pub mod Posting
+pub mod Published
+pub mod Spending
+pub mod Looking
+pub mod PublishRules
+pub mod Freeing
+pub mod Rooms
+pub mod Lowest
+pub mod Fresh
+pub mod Freshened
+pub mod Firsts

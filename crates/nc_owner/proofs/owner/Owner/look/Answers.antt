@@ -1,0 +1,10 @@
+use Rattle.std.proofs.Common.{refl}
+use Rattle.nc_owner.specs.Calls.{touched_of}
+use Rattle.nc_owner.proofs.Firsts.{look_tells}
+use Rattle.nc_owner.proofs.owner.Owner.look.Goals as goal
+
+pub returns-clause-first : goal.returns-clause-first
+returns-clause-first g c =
+    look_tells c.args.from c.args.number c.args.after (g.P.Slots.slots c.open.new.pool) c.args.self.now.desk.me c.self-2.inside.desk _ c.open.new.self c.in_ok-channel.channel
+    (touched_of c.args.chan (g.P.Slots.slots c.args.pool.now c.args.self.now.desk.me) c.args.self.now) c.new-alerts.result c.push.new.self c.in_ok-out.out
+    c.self-2.view_is c.in_ok-channel.ensures.bench refl c.new-alerts.ensures c.in_ok-push.ensures.ok c.in_ok-out.ensures.alert

@@ -1,0 +1,17 @@
+pub mod Moment
+pub mod Backlog
+pub mod Ascending
+pub mod State
+pub mod Pool
+pub mod Line
+pub mod Leave
+pub mod Poll
+pub mod Publish
+pub mod Posted
+pub mod Look
+pub mod Members
+pub mod Calls
+pub mod Sweep
+pub mod Holds
+pub mod Found
+pub mod Rules

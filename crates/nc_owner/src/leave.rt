@@ -1,0 +1,90 @@
+//! Entries leave a channel, and their slots are retired.
+ghost use Rattle.std.specs.Prelude.{◌≡◌, ◌∷◌, ◌++◌, [], OnOk, true};
+ghost use Rattle.nc_journal.specs.declared.word.LeftCause.TheVariants.{Length as ByLength};
+ghost use Rattle.nc_owner.specs.Leave.{left_event, left_desk, left_row, touch_events, touched, shed_events, shed};
+ghost use Rattle.nc_owner.specs.Pool.{SameOthers};
+ghost use Rattle.nc_owner.specs.State.{at};
+
+use crate::channel::Channel;
+use crate::desk::Desk;
+use nc_buffer::Entry;
+use nc_journal::{Event, LeftCause};
+use nc_slots::Slots;
+use nc_types::{ChanName, List, NoMemory};
+use std::alloc::Global;
+
+/// An entry leaves, and its slot is retired.
+pub(crate) fn leave<P: Slots>(
+    alloc: Global,
+    desk: &mut Desk,
+    pool: &mut P,
+    name: &ChanName,
+    entry: &Entry,
+    cause: LeftCause,
+    events: &mut List<Event>,
+) -> Result<(), NoMemory>
+    ensures events { OnOk result (events.new ≡ events.old ++ left_event desk.old.me name.now cause entry.now ∷ []) }
+    ensures desk { OnOk result (desk.new ≡ left_desk desk.old entry.now) }
+    ensures row { OnOk result (P.slots pool.new desk.old.me ≡ left_row (P.slots pool.old desk.old.me) entry.now) }
+    ensures others { OnOk result (SameOthers desk.old.me (P.slots pool.old) (P.slots pool.new)) }
+    ensures holds { OnOk result (P.exact ≡ true → P.holds pool.new ≡ P.holds pool.old) }
+{
+    events.push(Event::Left {
+        w: u64::from(desk.me),
+        c: name.copied()?,
+        id: entry.id,
+        slot: u64::from(entry.slot),
+        cause,
+    })?;
+    pool.retire(desk.me, entry.slot);
+    desk.buffered = desk.buffered.saturating_sub(1);
+    desk.retire(alloc, entry.slot)?;
+    Ok(())
+}
+
+/// A channel is touched: its expired entries leave.
+pub(crate) fn touch<P: Slots>(
+    alloc: Global,
+    desk: &mut Desk,
+    pool: &mut P,
+    name: &ChanName,
+    channel: &mut Channel,
+    events: &mut List<Event>,
+) -> Result<(), NoMemory>
+    ensures events { OnOk result (events.new ≡ events.old ++ touch_events name.now (at desk.old (P.slots pool.old desk.old.me) channel.old)) }
+    ensures bench { OnOk result (at desk.new (P.slots pool.new desk.old.me) channel.new ≡ touched (at desk.old (P.slots pool.old desk.old.me) channel.old)) }
+    ensures others { OnOk result (SameOthers desk.old.me (P.slots pool.old) (P.slots pool.new)) }
+    ensures holds { OnOk result (P.exact ≡ true → P.holds pool.new ≡ P.holds pool.old) }
+{
+    let now = desk.clock.seconds();
+    while let Some(entry) = channel.backlog.expire_one(now) {
+        leave(alloc, desk, pool, name, &entry, LeftCause::Expired, events)?;
+    }
+    Ok(())
+}
+
+/// So many of the oldest entries leave, to make room for a message.
+pub(crate) fn shed<P: Slots>(
+    alloc: Global,
+    desk: &mut Desk,
+    pool: &mut P,
+    name: &ChanName,
+    channel: &mut Channel,
+    count: usize,
+    events: &mut List<Event>,
+) -> Result<(), NoMemory>
+    ensures events { OnOk result (events.new ≡ events.old ++ shed_events ByLength count name.now (at desk.old (P.slots pool.old desk.old.me) channel.old)) }
+    ensures bench { OnOk result (at desk.new (P.slots pool.new desk.old.me) channel.new ≡ shed count (at desk.old (P.slots pool.old desk.old.me) channel.old)) }
+    ensures others { OnOk result (SameOthers desk.old.me (P.slots pool.old) (P.slots pool.new)) }
+    ensures holds { OnOk result (P.exact ≡ true → P.holds pool.new ≡ P.holds pool.old) }
+{
+    let mut left = count;
+    while left > 0 {
+        let Some(entry) = channel.backlog.drop_oldest() else {
+            return Ok(());
+        };
+        leave(alloc, desk, pool, name, &entry, LeftCause::Length, events)?;
+        left -= 1;
+    }
+    Ok(())
+}

@@ -1,0 +1,53 @@
+//! What an owner does without being asked: channels are touched, and retired slots are polled.
+ghost use Rattle.std.specs.Prelude.{◌≡◌, [], IfOk, OnOk, true, List as Items};
+ghost use Rattle.nc_owner.specs.declared.poll.PollAnswer.{PollAnswer as AnswerAt};
+ghost use Rattle.nc_owner.specs.Calls.{touch_after, touch_events_of, touched_row};
+ghost use Rattle.nc_owner.specs.Line.{out_lines};
+ghost use Rattle.nc_owner.specs.Pool.{SameOthers};
+ghost use Rattle.nc_owner.specs.Rules.{FreesUnheld, IsFresh};
+ghost use Rattle.nc_owner.specs.Sweep.{IsPolled};
+
+use crate::done::Done;
+use crate::owner::Owner;
+use crate::poll::poll_retired;
+use nc_journal::EventList;
+use nc_slots::Slots;
+use nc_types::{ChanName, List, NoMemory};
+
+impl Owner {
+    /// Touches a channel: its expired entries leave. Where there is no such channel, nothing happens.
+    pub fn sweep_one<P: Slots>(
+        &mut self,
+        pool: &mut P,
+        chan: &ChanName,
+    ) -> Result<Done<P::Hold>, NoMemory>
+        ensures events { IfOk result (λ done. done.events.events ≡ touch_events_of chan.now (P.slots pool.old self.old.desk.me) self.old) }
+        ensures alerts { IfOk result (λ done. out_lines done.alerts ≡ []) }
+        ensures owner { OnOk result (self.new ≡ touch_after chan.now (P.slots pool.old self.old.desk.me) self.old) }
+        ensures slots { OnOk result (P.slots pool.new self.old.desk.me ≡ touched_row chan.now (P.slots pool.old self.old.desk.me) self.old) }
+        ensures others { OnOk result (SameOthers self.old.desk.me (P.slots pool.old) (P.slots pool.new)) }
+        ensures holds { OnOk result (P.exact ≡ true → P.holds pool.new ≡ P.holds pool.old) }
+        ensures fresh { OnOk result (IsFresh chan.now self.new) }
+    {
+        let name = chan.copied()?;
+        let mut events = List::new(self.alloc);
+        let (channel, existed) = self.open(pool, chan, &mut events)?;
+        self.close(name, channel, existed)?;
+        Ok(Done {
+            events: EventList { events },
+            alerts: List::new(self.alloc),
+        })
+    }
+
+    /// Polls all retired slots in ascending order: those that nobody holds are unused from then on.
+    pub fn poll_retired<P: Slots>(&mut self, pool: &mut P) -> Result<EventList, NoMemory>
+        ensures polled { IfOk result (λ list. (answers : Items AnswerAt) × IsPolled P.exact (P.holds pool.old self.old.desk.me) answers (P.slots pool.old self.old.desk.me) self.old list.events (P.slots pool.new self.old.desk.me) self.new) }
+        ensures others { OnOk result (SameOthers self.old.desk.me (P.slots pool.old) (P.slots pool.new)) }
+        ensures holds { OnOk result (P.exact ≡ true → P.holds pool.new ≡ P.holds pool.old) }
+        ensures freed { IfOk result (λ list. P.exact ≡ true → FreesUnheld (P.holds pool.old self.old.desk.me) list.events) }
+    {
+        let mut events = List::new(self.alloc);
+        poll_retired(self.alloc, &mut self.desk, pool, &mut events)?;
+        Ok(EventList { events })
+    }
+}

@@ -1,0 +1,171 @@
+-- Each step of an owner keeps that it fits its slots.
+use Rattle.std.proofs.Common.{◌≡◌, ℕ, zero, suc, ◌+◌, Bool, true, false, cond, not, List, [], ◌∷◌, Option, Some, None, refl, sym, ap, ◌∙◌, arith, map, filter, eqb, replicate}
+use Rattle.std.specs.Prelude.{is_some, unwrap_or, ◌==◌, ◌||◌, slice_index}
+use Rattle.std.proofs.lemmas.Bool.{true≢false, eqb-true, or_parts}
+use Rattle.std.proofs.lemmas.List.{length-replicate}
+use Rattle.std.specs.Ordering.{nat_cmp}
+use Rattle.std.specs.Cmp.Lexicographic.{slice_cmp}
+use Rattle.std.specs.List.Sorted.{IsStrictlySortedBy}
+use Rattle.nc_types.specs.Message.{Message}
+use Rattle.nc_buffer.specs.declared.entry.Entry.{Entry}
+use Rattle.nc_buffer.specs.Buffer.{is_expired, is_spent}
+use Rattle.nc_slots.specs.Slot.{slot_at, is_buffered, lowest_unused}
+use Rattle.nc_slots.specs.declared.slot.Slot.{Slot}
+use Rattle.nc_slots.specs.declared.slot.Slot.TheVariants.{Unused}
+use Rattle.nc_owner.specs.declared.poll.PollAnswer.{PollAnswer}
+use Rattle.nc_owner.specs.declared.channel.Channel.{Channel}
+use Rattle.nc_owner.specs.declared.order.Order.{Order}
+use Rattle.nc_owner.specs.Ascending.{ascending}
+use Rattle.nc_owner.specs.State.{OwnerAt, Bench, entries_of, found, exists, new_channel, bench_of}
+use Rattle.nc_owner.specs.Leave.{touched, stayers}
+use Rattle.nc_owner.specs.Poll.{slot_of, is_held, held_slots, told_answer}
+use Rattle.nc_owner.specs.Publish.{Polls, PublishPolls, Outcome, late, full, stored, is_stored, outcome, asked, roomy, leaving, slots_of, lowest_slot, post_bench, publish_cleared, publish_outcome, publish_bench}
+use Rattle.nc_owner.specs.Calls.{touched_of, joined, parted}
+use Rattle.nc_owner_laws.specs.Used.{is_retired, bit, times}
+use Rattle.nc_owner_laws.specs.Kept.{slots_in}
+use Rattle.nc_owner_laws.specs.Fits.{all_entries, Fits, BenchFits}
+use Rattle.nc_owner_laws.specs.Keeping.{NewFits, TouchFits, JoinFits, PartFits, LookFits, PolledFits, ClockFits, HoldsFall, ToldHoldsFall, PublishFits, PublishFinds}
+use Rattle.nc_owner_laws.proofs.Used.{agrees-same}
+use Rattle.nc_owner_laws.proofs.Leaving.{let_go_fits}
+use Rattle.nc_owner_laws.proofs.Polling.{length_polled, in_polled_all, held_agree, polled_fits}
+use Rattle.nc_owner_laws.proofs.Storing.{stored_fits}
+use Rattle.nc_owner_laws.proofs.Looking.{look_fits as look_fits_bench}
+use Rattle.nc_owner_laws.proofs.Opening.{rest_of, opened_fits, put_fits, after_fits}
+use Rattle.nc_owner_laws.proofs.Room.{times-ascending, asked_fits, roomy_fits, Ready, room_of}
+
+unused_row : (n k : ℕ) → slot_at (replicate n (let x : Slot Message = Unused in x)) k ≡ Unused
+unused_row zero k = refl
+unused_row (suc n) zero = refl
+unused_row (suc n) (suc k) = unused_row n k
+
+sorted_none : IsStrictlySortedBy (slice_cmp nat_cmp) []
+unfolding IsStrictlySortedBy
+sorted_none = tt
+
+pub new_fits : NewFits
+new_fits me workers slots first = record {
+  names = sorted_none;
+  slots = length-replicate slots Unused;
+  apart = record {
+    of_buffered = λ s. ap (λ x. bit (is_buffered x)) (sym (unused_row slots s));
+    of_retired = λ s. ap (λ x. bit (is_retired x)) (sym (unused_row slots s));
+  };
+  number = refl;
+  kept = tt;
+  regular = tt;
+}
+
+-- ---- a channel that isn't there
+
+not_there : (o : Option Channel) → is_some o ≡ false → o ≡ None
+not_there None e = refl
+not_there (Some ch) e = absurd cc
+
+pub nothing_there : (c : List ℕ) (row : List (Slot Message)) (s : OwnerAt) → exists c s ≡ false → entries_of (touched_of c row s).channel ≡ []
+nothing_there c row s e = ap (λ (o : Option Channel). stayers (is_expired s.desk.clock) (entries_of (unwrap_or o (new_channel s.desk)))) (not_there (found c s) e)
+
+pub touched_fits : (c : List ℕ) (row : List (Slot Message)) (s : OwnerAt) → Fits row s → BenchFits (rest_of c s) (touched_of c row s)
+touched_fits c row s f = let_go_fits (rest_of c s) (is_expired s.desk.clock) (bench_of c row s) (opened_fits c row s f)
+
+pub touch_fits : TouchFits
+touch_fits c row s f = after_fits c (exists c s) (touched_of c row s) row s f (touched_fits c row s f) (nothing_there c row s)
+
+pub join_fits : JoinFits
+join_fits m c row s f = put_fits c (joined m (touched_of c row s)) row s f (let g = touched_fits c row s f in record { slots = g.slots; apart = g.apart; number = g.number; others = g.others; kept = g.kept; regular = record { rises = g.regular.rises; below = g.regular.below } })
+
+pub part_fits : PartFits
+part_fits m c row s f = after_fits c (exists c s) (parted m (touched_of c row s)) row s f (let g = touched_fits c row s f in record { slots = g.slots; apart = g.apart; number = g.number; others = g.others; kept = g.kept; regular = record { rises = g.regular.rises; below = g.regular.below } }) (nothing_there c row s)
+
+pub look_fits : LookFits
+look_fits from c id row s f = put_fits c _ row s f (look_fits_bench (rest_of c s) from id _ (let_go_fits (rest_of c s) is_spent (touched_of c row s) (touched_fits c row s f)))
+
+none_more : (n : ℕ) → 0 + n ≡ n
+none_more n = omega arith
+
+pub polled_all_fits : PolledFits
+polled_all_fits answers row s each f = record {
+  names = f.names;
+  slots = length_polled answers row ∙ f.slots;
+  apart = agrees-same _ _ _ _ _ (λ k. refl) (λ k. none_more (times k (held_slots answers))) (held_agree (λ k. times k (slots_in (all_entries s.channels))) (λ k. 0) answers row (agrees-same _ _ _ _ _ (λ k. refl) (λ k. omega (arith, ap (times k) each)) f.apart));
+  number = f.number;
+  kept = in_polled_all answers row (all_entries s.channels) f.kept;
+  regular = f.regular;
+}
+
+pub clock_fits : ClockFits
+clock_fits now row s f = record { names = f.names; slots = f.slots; apart = f.apart; number = f.number; kept = f.kept; regular = f.regular }
+
+-- ---- a publish
+
+-- of polled slots, those that are held, where the numbers of holds are told
+held_told : (counts : List ℕ) (s : ℕ) (ks : List ℕ) → times s (held_slots (map (told_answer counts) ks)) ≡ cond (slice_index counts s == 0) 0 (times s ks)
+held_told counts s [] = cond_same (slice_index counts s == 0)
+  where
+    cond_same : (b : Bool) → zero ≡ cond b zero zero
+    cond_same true = refl
+    cond_same false = refl
+held_told counts s (k ∷ ks) =
+    with_answer (not (slice_index counts k == 0)) (told_answer counts k) (filter is_held (map (told_answer counts) ks))
+    ∙ step (slice_index counts k == 0) (slice_index counts s == 0) (eqb k s) (times s (held_slots (map (told_answer counts) ks))) (times s ks) (λ e. ap (λ n. slice_index counts n == 0) (sym (eqb-true k s e))) (held_told counts s ks)
+  where
+    with_answer : (b : Bool) (a : PollAnswer) (rest : List PollAnswer) → times s (map slot_of (cond b (a ∷ rest) rest)) ≡ cond b (bit (eqb a.slot s) + times s (map slot_of rest)) (times s (map slot_of rest))
+    with_answer true a rest = refl
+    with_answer false a rest = refl
+
+    step : (b z d : Bool) (h t : ℕ) → (d ≡ true → z ≡ b) → h ≡ cond z 0 t → cond (not b) (bit d + h) h ≡ cond z 0 (bit d + t)
+    step true true d h t f e = e
+    step true false true h t f e = absurd (true≢false (sym (f refl)))
+    step true false false h t f e = omega (arith, e)
+    step false true true h t f e = absurd (true≢false (f refl))
+    step false true false h t f e = omega (arith, e)
+    step false false d h t f e = omega (arith, e)
+
+pub told_holds_fall : ToldHoldsFall
+told_holds_fall counts o row s polls p slot lt =
+    let ks = slots_of (leaving o.length (touched (bench_of o.chan row s))) in
+    let after_is : times slot (held_slots polls.left) ≡ cond (slice_index counts slot == 0) 0 (times slot (ascending ks)) =
+    ap (λ l. times slot (held_slots l)) (p.others.after_leaving.told refl) ∙ held_told counts slot (ascending ks) in
+    let before_is : times slot (held_slots polls.leaving) ≡ cond (slice_index counts slot == 0) 0 (times slot ks) =
+    ap (λ l. times slot (held_slots l)) (p.others.before.told refl) ∙ held_told counts slot ks in
+    omega (arith, lt, after_is, before_is, ap (cond (slice_index counts slot == 0) 0) (times-ascending slot ks))
+
+-- what a publish finds once the channel was touched and the retired slots were polled
+pub cleared_ready : (exact : Bool) (counts : List ℕ) (o : Order) (row : List (Slot Message)) (s : OwnerAt) (polls : Polls) → PublishPolls exact counts o row s polls → HoldsFall polls → Fits row s
+    → Ready (rest_of o.chan s) o.length polls (publish_cleared o polls row s)
+cleared_ready exact counts o row s polls p falls f = record {
+  fits = polled_fits (rest_of o.chan s) polls.retired (touched_of o.chan row s) p.first.each (touched_fits o.chan row s f);
+  retired = refl;
+  before = p.others.before.each;
+  left = p.others.after_leaving.each;
+  falls = falls;
+}
+
+pub some_is : (o : Option ℕ) → is_some o ≡ true → o ≡ Some (unwrap_or o 0)
+some_is None e = cc
+some_is (Some k) e = refl
+
+pub publish_finds : PublishFinds
+publish_finds exact counts o row s polls p falls f is = room_of (rest_of o.chan s) o.length polls (publish_cleared o polls row s) (cleared_ready exact counts o row s polls p falls f) is
+
+posted_fits : (x : Outcome) (rest : List Entry) (o : Order) (polls : Polls) (b : Bench) → Ready rest o.length polls b → outcome o.length polls b ≡ x → BenchFits rest (post_bench x o polls b)
+posted_fits late rest o polls b r is = r.fits
+posted_fits (full usage) rest o polls b r is = asked_fits rest _ polls.leaving b r.before r.fits
+posted_fits stored rest o polls b r is =
+    let ready = asked polls.leaving b in
+    let room = roomy o.length polls.left ready in
+    stored_fits rest o (lowest_slot room.row) room (some_is (lowest_unused room.row) (room_of rest o.length polls b r is))
+    (roomy_fits rest o.length polls.left ready (asked_fits rest _ polls.leaving b r.before r.fits))
+
+-- where the channel isn't there and nothing is stored, nothing is there
+posted_nothing : (x : Outcome) (o : Order) (polls : Polls) (b : Bench) → is_stored x ≡ false → entries_of b.channel ≡ [] → entries_of (post_bench x o polls b).channel ≡ []
+posted_nothing late o polls b n e = e
+posted_nothing (full usage) o polls b n e = e
+posted_nothing stored o polls b n e = absurd (true≢false n)
+
+pub publish_fits : PublishFits
+publish_fits exact counts o row s polls p falls f =
+    let r = cleared_ready exact counts o row s polls p falls f in
+    let x = publish_outcome o polls row s in
+    after_fits o.chan (exists o.chan s || is_stored x) (publish_bench o polls row s) row s f
+    (posted_fits x (rest_of o.chan s) o polls (publish_cleared o polls row s) r refl)
+    (λ e. let n = or_parts (exists o.chan s) (is_stored x) e in posted_nothing x o polls (publish_cleared o polls row s) n.1 (nothing_there o.chan row s n.0))

@@ -1,0 +1,5 @@
+use Rattle.nc_owner_laws.proofs.Filtering as filtering
+use Rattle.nc_owner_laws.proofs.filters.channel_filters.Goals as goal
+
+pub returns : goal.returns
+returns c = filtering.channel_law

@@ -1,0 +1,5 @@
+use Rattle.nc_owner_laws.proofs.StepEvents as steps
+use Rattle.nc_owner_laws.proofs.telling.clock_tells.Goals as goal
+
+pub returns : goal.returns
+returns c = steps.clock_tells

@@ -1,0 +1,5 @@
+use Rattle.nc_owner_laws.proofs.Hearing as wakes
+use Rattle.nc_owner_laws.proofs.waking.look_wakes.Goals as goal
+
+pub returns : goal.returns
+returns c = wakes.look_wakes

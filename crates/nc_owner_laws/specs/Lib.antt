@@ -1,0 +1,13 @@
+pub mod Used
+pub mod Kept
+pub mod Fits
+pub mod Keeping
+pub mod Told
+pub mod Telling
+pub mod Filters
+pub mod Stamped
+pub mod Buffered
+pub mod Weave
+pub mod Wake
+pub mod Standing
+pub mod Shown

@@ -1,0 +1,52 @@
+//! Each step of an owner keeps that it fits its slots.
+ghost use Rattle.nc_owner_laws.specs.Keeping.{NewFits, TouchFits, JoinFits, PartFits, LookFits, PolledFits, ClockFits, ToldHoldsFall, PublishFits, PublishFinds};
+
+/// A new owner fits unused slots.
+pub fn new_fits()
+    ensures { NewFits }
+{}
+
+/// A question for information and a sweep keep it.
+pub fn touch_fits()
+    ensures { TouchFits }
+{}
+
+/// A join keeps it.
+pub fn join_fits()
+    ensures { JoinFits }
+{}
+
+/// A part keeps it.
+pub fn part_fits()
+    ensures { PartFits }
+{}
+
+/// A look keeps it.
+pub fn look_fits()
+    ensures { LookFits }
+{}
+
+/// Polls of all retired slots keep it.
+pub fn polled_fits()
+    ensures { PolledFits }
+{}
+
+/// A new clock keeps it.
+pub fn clock_fits()
+    ensures { ClockFits }
+{}
+
+/// Where the numbers of holds are told, a leaving slot that is held once it has left was held before.
+pub fn told_holds_fall()
+    ensures { ToldHoldsFall }
+{}
+
+/// A publish keeps it, where no leaving slot becomes held while it leaves.
+pub fn publish_fits()
+    ensures { PublishFits }
+{}
+
+/// A publish that is neither late nor full finds an unused slot.
+pub fn publish_finds()
+    ensures { PublishFinds }
+{}

@@ -1,0 +1,16 @@
+use Rattle.std.proofs.Common.{◌∙◌}
+use Rattle.nc_reaper.proofs.Reaping.{reaped_by}
+use Rattle.nc_reaper.proofs.Unheld.{reap_frees}
+use Rattle.nc_reaper.proofs.sweep.reap.Goals as goal
+
+pub returns-clause-reaped : goal.returns-clause-reaped
+returns-clause-reaped g c =
+    let q = c.in_ok-more.ensures.polled in (
+      q.0,
+      reaped_by g.P.Slots.exact c.args.owner.now c.sweep_all.new.owner c.poll_retired.new.self (g.P.Slots.slots c.args.pool.now) (g.P.Slots.slots c.sweep_all.new.pool) (g.P.Slots.slots c.poll_retired.new.pool)
+          (g.P.Slots.holds c.args.pool.now) (g.P.Slots.holds c.sweep_all.new.pool) c.as_slice.result.now c.new-events.result c.sweep_all.new.events c.append.new.events c.in_ok-more.more.events q.0
+          c.new-events.ensures (c.as_slice.ensures ∙ c.in_ok-names.ensures) c.in_ok-sweep_all.ensures.me c.in_ok-sweep_all.ensures.all c.in_ok-sweep_all.ensures.holds q.1 c.in_ok-append.ensures,
+    )
+
+pub returns-clause-freed : goal.returns-clause-freed
+returns-clause-freed g c = let r = returns-clause-reaped g c in reap_frees _ _ r.0 _ _ _ _ _ r.1
