@@ -1,11 +1,8 @@
-//! The top call: the journals of scripts, worked out by hand, and every end that a run can have.
+//! The top call at inputs and outputs that fail, and at its limits. The rows of its commands stand in `nchan_rows`.
 //!
 //! They are tests of `nc_replay`, which stand above it so that its proof is made once.
-mod checks;
 mod ends;
-mod faults;
-mod journals;
-mod settings;
+mod lengths;
 
 use nc_outside::{MemSink, MemSource, Sink, Source};
 use nc_replay::top;

@@ -133,15 +133,23 @@ fn run(alloc: Global, text: &str, failing: u64) -> Result<(u8, MemSink), NoMemor
 }
 
 #[test]
-fn usage(rt: HostRuntime) -> Result<(), Fail> {
-    let usage = "usage: nchan replay | check | load SEED SIZE | serve\n";
-    for words in ["", "replay x", "Replay", "check x", "serve"] {
-        let (status, out) = run(rt.alloc(), words, 1)?;
-        assert_eq!(rt; status, 2, "{words}");
-        assert_eq!(rt; out.bytes(), usage.as_bytes(), "{words}");
-        let (status, out) = run(rt.alloc(), words, 0)?;
+fn failing_writes_of_one_line(rt: HostRuntime) -> Result<(), Fail> {
+    let alloc = rt.alloc();
+    for words in ["", "check", "serve"] {
+        let (status, out) = run(alloc, words, 0)?;
         assert_eq!(rt; status, 5, "{words}");
         assert!(rt; out.bytes().is_empty(), "{words}");
     }
+    Ok(())
+}
+
+#[test]
+fn failing_read_of_a_configuration(rt: HostRuntime) -> Result<(), Fail> {
+    let alloc = rt.alloc();
+    let words = words_of(alloc, "check")?;
+    let mut input = MemSource::new(list_of(alloc, b"http { }")?, list_of(alloc, &[0])?);
+    let mut out = MemSink::new(alloc, List::new(alloc));
+    assert_eq!(rt; top(alloc, &words, &mut input, &mut out), 4);
+    assert!(rt; out.bytes().is_empty());
     Ok(())
 }
