@@ -64,10 +64,10 @@ pub record Heard (h : List Event) : Type 0 where
   pub same : (w : ℕ) (c : List ℕ) (q : ℕ) → IsOnlyAt c q h → heard w c q h ≡ wake w c q h
   pub waits : (w : ℕ) (c : List ℕ) (q : ℕ) → wake w c q h ≡ Waiting → is_marked c w h ≡ true
 
-heard_of : (h : List Event) → Wakes h → Heard h
+pub heard_of : (h : List Event) → Wakes h → Heard h
 heard_of h k = record { same = λ w c q o. sym (hears_is w c q h) ∙ k.same w c q o; waits = k.waits }
 
-wakes_of : (h : List Event) → Heard h → Wakes h
+pub wakes_of : (h : List Event) → Heard h → Wakes h
 wakes_of h k = record { same = λ w c q o. hears_is w c q h ∙ k.same w c q o; waits = k.waits }
 
 -- ---- events that wake nobody
@@ -86,7 +86,7 @@ still_one (Removed w c last cause) h n k = absurd n
 still_one (Made v to j a) h n k = absurd n
 still_one e h n k = record { same = k.same; waits = k.waits }
 
-still_onto : (es h : List Event) → AllByRecursion WakesNobody es → Heard h → Heard (onto es h)
+pub still_onto : (es h : List Event) → AllByRecursion WakesNobody es → Heard h → Heard (onto es h)
 still_onto [] h n k = k
 still_onto (e ∷ es) h n k = still_onto es (e ∷ h) n.1 (still_one e h n.0 k)
 
@@ -97,7 +97,7 @@ still_marked c u (Removed w d last cause) h n = absurd n
 still_marked c u (Made v to j a) h n = absurd n
 still_marked c u e h n = refl
 
-onto_marked : (c : List ℕ) (u : ℕ) (es h : List Event) → AllByRecursion WakesNobody es → is_marked c u (onto es h) ≡ is_marked c u h
+pub onto_marked : (c : List ℕ) (u : ℕ) (es h : List Event) → AllByRecursion WakesNobody es → is_marked c u (onto es h) ≡ is_marked c u h
 onto_marked c u [] h n = refl
 onto_marked c u (e ∷ es) h n = onto_marked c u es (e ∷ h) n.1 ∙ still_marked c u e h n.0
 

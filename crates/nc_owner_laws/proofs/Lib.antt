@@ -21,3 +21,4 @@ pub mod Hearing
 pub mod Owners
 pub mod OwnerSteps
 pub mod Showing
+pub mod Removal

@@ -11,3 +11,4 @@ pub mod Weave
 pub mod Wake
 pub mod Standing
 pub mod Shown
+pub mod Removal

@@ -1,0 +1,5 @@
+use Rattle.nc_owner_laws.proofs.Removal as removal
+use Rattle.nc_owner_laws.proofs.waking.removal_past.Goals as goal
+
+pub returns : goal.returns
+returns c = removal.removal_past
