@@ -217,6 +217,10 @@ others_wake h next c row s k =
       polled = λ answers. wakes_of _ (still_alone s.desk.me next (freed_events s.desk.me answers) h (still_freed s.desk.me (free_slots answers)) g);
     }
 
+-- a sweep tells nobody
+pub sweep_wakes : (h : List Event) (next : ℕ → ℕ) (c : List ℕ) (row : List (Slot Message)) (s : OwnerAt) → Wakes h → Wakes (onto (weave s.desk.me next (touch_events_of c row s) []) h)
+sweep_wakes h next c row s k = wakes_of _ (still_alone s.desk.me next (touch_events_of c row s) h (still_touch c row s) (heard_of h k))
+
 pub new_wakes : NewWakes
 new_wakes = record { same = λ w c q o. refl; waits = λ w c q e. cc }
 

@@ -22,3 +22,5 @@ pub mod Owners
 pub mod OwnerSteps
 pub mod Showing
 pub mod Removal
+pub mod InOrder
+pub mod Behind

@@ -36,7 +36,7 @@ use Rattle.nc_owner_laws.specs.Filters.{new_desk}
 use Rattle.nc_owner_laws.specs.Buffered.{entries_in, LeavesStored}
 use Rattle.nc_owner_laws.specs.Weave.{weave}
 use Rattle.nc_owner_laws.specs.Wake.{Wakes}
-use Rattle.nc_owner_laws.specs.Standing.{NothingPast, Stands, NewStands, OthersStand, PublishStands}
+use Rattle.nc_owner_laws.specs.Standing.{NothingPast, Stands, NewStands, OthersStand, SweepStands, PublishStands}
 use Rattle.nc_owner_laws.proofs.Kept.{all_append, all_filtered}
 use Rattle.nc_owner_laws.proofs.Looking.{same_ids}
 use Rattle.nc_owner_laws.proofs.Steps as keeping
@@ -76,7 +76,7 @@ calm_parted : (b : Bool) (w : ℕ) (c : List ℕ) (m : Member) → AllByRecursio
 calm_parted true w c m = (tt, tt)
 calm_parted false w c m = tt
 
-calm_found : (from number : ℕ) (c : List ℕ) (id : Id) (x : Option Entry) (d : Desk) → AllByRecursion IsCalm (looked_event from number c id x d ∷ found_events from x d)
+pub calm_found : (from number : ℕ) (c : List ℕ) (id : Id) (x : Option Entry) (d : Desk) → AllByRecursion IsCalm (looked_event from number c id x d ∷ found_events from x d)
 calm_found from number c id None d = (tt, tt)
 calm_found from number c id (Some e) d = (tt, (tt, tt))
 
@@ -121,7 +121,7 @@ counted_ids : (P : Id → Type 0) (place : Option ℕ) (es : List Entry) → All
 counted_ids P None es a = a
 counted_ids P (Some k) es a = same_ids P k es a
 
-found_buffer : (from number : ℕ) (c : List ℕ) (id : Id) (x : Option Entry) (k : Desk) (d : List ℕ) (h : List Event) → buffer d (onto (looked_event from number c id x k ∷ found_events from x k) h) ≡ buffer d h
+pub found_buffer : (from number : ℕ) (c : List ℕ) (id : Id) (x : Option Entry) (k : Desk) (d : List ℕ) (h : List Event) → buffer d (onto (looked_event from number c id x k ∷ found_events from x k) h) ≡ buffer d h
 found_buffer from number c id None k d h = refl
 found_buffer from number c id (Some e) k d h = refl
 
@@ -214,6 +214,16 @@ module _ (me workers slots first : ℕ) (next : ℕ → ℕ) (row : List (Slot M
       ((hearing.others_wake h next c row s k.wakes).info from r)
       (idle_woven (touch_events_of c row s) (info_alerts from r c row s) (touch_idle c))
 
+  sweep_stands_at : (c : List ℕ) → Stands me workers slots first (touched_row c row s) (onto (weave s.desk.me next (touch_events_of c row s) []) h) (touch_after c row s)
+  sweep_stands_at c = assembled (touched_row c row s) (touch_after c row s) (touch_events_of c row s) []
+      (keeping.touch_fits c row s k.fits)
+      (touch_by c) (touch_stays c)
+      (telling.touch_tells (new_desk me workers slots first) h c row s k.fits k.tells)
+      (plain_woven (touch_events_of c row s) [] (stamping.plain_touch c row s))
+      (subst (λ (l : List Event). Along LeavesStored (onto (weave s.desk.me next l []) h)) (append-nil (touch_events_of c row s)) (calm_stored c [] [] tt))
+      (hearing.sweep_wakes h next c row s k.wakes)
+      (idle_woven (touch_events_of c row s) [] (touch_idle c))
+
   polled_stands : (answers : List PollAnswer) → map slot_of answers ≡ s.desk.retired → Stands me workers slots first (polled_row answers row) (onto (weave s.desk.me next (polled_events answers s) []) h) (polled_after answers s)
   polled_stands answers each = assembled (polled_row answers row) (polled_after answers s) (polled_events answers s) []
       (keeping.polled_all_fits answers row s each k.fits)
@@ -238,7 +248,7 @@ module _ (me workers slots first : ℕ) (next : ℕ → ℕ) (row : List (Slot M
 
   -- ---- a look
 
-  front_stored : (c : List ℕ) → Along LeavesStored (onto (touch_events_of c row s ++ spend_events c (touched_of c row s)) h)
+  pub front_stored : (c : List ℕ) → Along LeavesStored (onto (touch_events_of c row s ++ spend_events c (touched_of c row s)) h)
   front_stored c =
       let go = leavers (is_expired s.desk.clock) (bench_of c row s) in
       let fresh = stayers (is_expired s.desk.clock) (entries_of (opened c s)) in
@@ -302,10 +312,13 @@ others_stand me workers slots first next row h s k = record {
   clock = clock_stands me workers slots first next row h s k;
 }
 
+pub sweep_stands : SweepStands
+sweep_stands me workers slots first next c row h s k = sweep_stands_at me workers slots first next row h s k c
+
 -- ---- a publish
 
 -- what holds behind a front without grants holds of the whole
-behind : (P : List Event → Type 0) (v : ℕ) (next : ℕ → ℕ) (front rest : List Event) (alerts : List OutLine) (h : List Event) → AllByRecursion IsStill front → P (onto (weave v next rest alerts) (onto front h)) → P (onto (weave v next (front ++ rest) alerts) h)
+pub behind : (P : List Event → Type 0) (v : ℕ) (next : ℕ → ℕ) (front rest : List Event) (alerts : List OutLine) (h : List Event) → AllByRecursion IsStill front → P (onto (weave v next rest alerts) (onto front h)) → P (onto (weave v next (front ++ rest) alerts) h)
 behind P v next front rest alerts h still p =
     subst (λ (l : List Event). P (onto l h)) (sym (weave_first v next front rest alerts (hearing.stills front still).1)) (subst P (sym (onto_append front (weave v next rest alerts) h)) p)
 

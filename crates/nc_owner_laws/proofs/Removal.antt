@@ -126,7 +126,7 @@ removed_heard v next c last cause alerts h p tells k =
           ∙ removed_waits (name_eq c d) (is_marked d w h) (wake w d q h) (k.waits w d q) (sym (made_wake v next alerts h1 w d q) ∙ e);
     }
 
-removal_is : (v : ℕ) (next : ℕ → ℕ) (c : List ℕ) (last : Id) (cause : RemovedCause) (lefts : List Event) (alerts : List OutLine) (h : List Event) → AllByRecursion IsLeft lefts
+pub removal_is : (v : ℕ) (next : ℕ → ℕ) (c : List ℕ) (last : Id) (cause : RemovedCause) (lefts : List Event) (alerts : List OutLine) (h : List Event) → AllByRecursion IsLeft lefts
     → removal_onto v next c last cause lefts alerts h ≡ onto (makes v next alerts) (Removed v c last cause ∷ onto lefts h)
 removal_is v next c last cause lefts alerts h l =
     ap (λ (es : List Event). onto es h) (weave_first v next lefts (Removed v c last cause ∷ []) alerts (stills lefts (lefts_still lefts l)).1)

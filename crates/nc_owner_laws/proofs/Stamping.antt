@@ -207,7 +207,7 @@ publish_stamped me workers slots first from h o row s polls g owner t =
 
 -- ---- the floor
 
-floor_step : (e : Event) (h : List Event) → floor_of h ≤ floor_of (e ∷ h)
+pub floor_step : (e : Event) (h : List Event) → floor_of h ≤ floor_of (e ∷ h)
 floor_step (Raised w t) h = omega arith
 floor_step (Stored w c id slot len exp kept members from r ct body) h = omega arith
 floor_step e h = omega arith

@@ -12,3 +12,5 @@ pub mod Wake
 pub mod Standing
 pub mod Shown
 pub mod Removal
+pub mod InOrder
+pub mod Behind

@@ -67,3 +67,8 @@ OthersStand = (me workers slots first : ℕ) (next : ℕ → ℕ) (row : List (S
 abbrev pub PublishStands : Type 0
 PublishStands = (me workers slots first : ℕ) (next : ℕ → ℕ) (exact : Bool) (counts : List ℕ) (from : ℕ) (o : Order) (polls : Polls) (row : List (Slot Message)) (h : List Event) (s : OwnerAt) → owner_of workers o.chan ≡ me → PublishPolls exact counts o row s polls → HoldsFall polls
     → Stands me workers slots first row h s → Stands me workers slots first (publish_row o polls row s) (onto (weave s.desk.me next (publish_events from o polls row s) (publish_alerts from o polls row s)) h) (publish_after o polls row s)
+
+-- a sweep of one channel keeps that an owner stands for its history
+abbrev pub SweepStands : Type 0
+SweepStands = (me workers slots first : ℕ) (next : ℕ → ℕ) (c : List ℕ) (row : List (Slot Message)) (h : List Event) (s : OwnerAt) → Stands me workers slots first row h s
+    → Stands me workers slots first (touched_row c row s) (onto (weave s.desk.me next (touch_events_of c row s) []) h) (touch_after c row s)

@@ -6,6 +6,7 @@
 
 mod filters;
 mod keeping;
+mod places;
 mod slots;
 mod stamps;
 mod standing;

@@ -1,6 +1,6 @@
 //! An owner with its slots stands for its history: all of the above together, kept by each step.
 ghost use Rattle.nc_owner_laws.specs.Shown.{StandsShows};
-ghost use Rattle.nc_owner_laws.specs.Standing.{NewStands, OthersStand, PublishStands};
+ghost use Rattle.nc_owner_laws.specs.Standing.{NewStands, OthersStand, SweepStands, PublishStands};
 
 /// A new owner stands for the empty history.
 pub fn new_stands()
@@ -10,6 +10,11 @@ pub fn new_stands()
 /// Each step but a publish keeps it, with its events and alerts put on the history.
 pub fn others_stand()
     ensures { OthersStand }
+{}
+
+/// A sweep of one channel keeps it.
+pub fn sweep_stands()
+    ensures { SweepStands }
 {}
 
 /// A publish keeps it, where no leaving slot becomes held while it leaves.
