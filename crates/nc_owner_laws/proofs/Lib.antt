@@ -24,3 +24,4 @@ pub mod Showing
 pub mod Removal
 pub mod InOrder
 pub mod Behind
+pub mod Drawn

@@ -14,3 +14,4 @@ pub mod Shown
 pub mod Removal
 pub mod InOrder
 pub mod Behind
+pub mod Drawn

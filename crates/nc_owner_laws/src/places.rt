@@ -1,5 +1,6 @@
 //! What stands at each place of an owner's history, and what follows for its looks and its numbers.
 ghost use Rattle.nc_owner_laws.specs.Behind.{NoticeIsFirst, ShowsLooks};
+ghost use Rattle.nc_owner_laws.specs.Drawn.{DrawnOnce};
 ghost use Rattle.nc_owner_laws.specs.InOrder.{NewInOrder, OthersInOrder, PublishInOrder, RemovalInOrder};
 
 /// In the empty history each look and each number is in order.
@@ -30,4 +31,9 @@ pub fn notice_is_first()
 /// Where a look waits, its worker is marked, nothing was stored since, and none that is buffered now is past the look's id.
 pub fn shows_looks()
     ensures { ShowsLooks }
+{}
+
+/// Each number of a look and of a grant is drawn once, and a look is made at one channel only.
+pub fn drawn_once()
+    ensures { DrawnOnce }
 {}
