@@ -1,18 +1,21 @@
 -- Numbers of looks and of grants are drawn once.
-use Rattle.std.proofs.Common.{◌≡◌, ℕ, ◌+◌, ◌<◌, ◌≤◌, Bool, true, false, cond, List, [], ◌∷◌, Some, None, refl, sym, ap, ◌∙◌, subst, arith}
+use Rattle.std.proofs.Common.{◌≡◌, inl, inr, ℕ, ◌+◌, ◌<◌, ◌≤◌, Bool, true, false, cond, List, [], ◌∷◌, ◌++◌, Option, Some, None, refl, sym, ap, ◌∙◌, subst, arith}
 use Rattle.std.specs.Prelude.{◌&&◌, ◌==◌}
 use Rattle.std.specs.List.{AllByRecursion}
 use Rattle.std.proofs.lemmas.Bool.{and_parts, eqb-true, ne_eqb}
+use Rattle.nc_types.specs.Id.{Id}
 use Rattle.nc_types.specs.Channel.{name_eq}
 use Rattle.nc_journal.specs.History.{Along}
 use Rattle.nc_journal.specs.declared.event.Event.{Event}
-use Rattle.nc_journal.specs.declared.event.Event.TheVariants.{Stored, Looked, Granted, Removed}
+use Rattle.nc_journal.specs.declared.event.Event.TheVariants.{Stored, Looked, Granted, Removed, Made}
+use Rattle.nc_journal.specs.declared.alert.AlertLine.TheVariants.{LookAnswer}
 use Rattle.nc_journal.proofs.Cuts.{all-weaker}
 use Rattle.nc_owner.specs.declared.desk.Desk.{Desk}
 use Rattle.nc_owner_laws.specs.Used.{bit, times}
 use Rattle.nc_owner_laws.specs.Filters.{new_desk}
 use Rattle.nc_owner_laws.specs.Wake.{Wake, NotYet, Waiting, wake, IsOnlyAt}
-use Rattle.nc_owner_laws.specs.InOrder.{next_look, next_grant, DrawsNext}
+use Rattle.nc_owner_laws.specs.InOrder.{next_look, next_grant, DrawsNext, HasLook, AnswersAt}
+use Rattle.nc_owner_laws.specs.Behind.{AnswersPlace, AnswerTellsLook}
 use Rattle.nc_owner_laws.specs.Drawn.{look_numbers, grant_numbers, AreDrawn, DrawnOnce}
 use Rattle.nc_owner_laws.proofs.Behind.{wake_stored, wake_removed}
 use Rattle.nc_owner_laws.proofs.InOrder.{looks_law, grants_law}
@@ -98,3 +101,40 @@ drawn_once me workers slots first row h s k o = record {
   grants = subst (λ (n : ℕ). AreDrawn n (grant_numbers h)) (sym (ap (λ (d : Desk). d.grants) k.tells.desk ∙ grants_law (new_desk me workers slots first) h)) (grants_drawn first h o.draws);
   only = λ w c q n. only_at first w c q h o.draws n;
 }
+
+-- ---- the answer to a look
+
+has_below : (v q u number floor : ℕ) (found : Option Id) (h : List Event) (next : ℕ) → AllByRecursion (λ n. n < next) (look_numbers h) → HasLook v q u number floor found h → q < next
+has_below v q u number floor found [] next a k = absurd k
+has_below v q u number floor found (Looked w p from n c after f past ∷ h) next a (inl k) = subst (λ (x : ℕ). x < next) k.1 a.0
+has_below v q u number floor found (Looked w p from n c after f past ∷ h) next a (inr k) = has_below v q u number floor found h next a.1 k
+has_below v q u number floor found (e ∷ h) next a k = has_below v q u number floor found h next a k
+
+has_later : (v q u number floor : ℕ) (found : Option Id) (newer older : List Event) → HasLook v q u number floor found older → HasLook v q u number floor found (newer ++ older)
+has_later v q u number floor found [] older k = k
+has_later v q u number floor found (Looked w p from n c after f past ∷ newer) older k = inr (has_later v q u number floor found newer older k)
+has_later v q u number floor found (e ∷ newer) older k = has_later v q u number floor found newer older k
+
+along_right : (P : List Event → Event → Type 0) (newer h : List Event) → Along P (newer ++ h) → Along P h
+along_right P [] h a = a
+along_right P (e ∷ newer) h a = along_right P newer h a.0
+
+-- a look of this number that stands there is the only one
+one_look : (first me q w n : ℕ) (c : List ℕ) (after : Id) (f : ℕ) (since seen : List Event) (v number floor : ℕ) (found : Option Id) → Along (DrawsNext first) (since ++ Looked me q w n c after f None ∷ seen) → HasLook v q w number floor found (since ++ Looked me q w n c after f None ∷ seen)
+    → AnswersPlace number floor found n f
+one_look first me q w n c after f [] seen v number floor found a (inl k) = record { same_number = k.3; same_floor = k.4; nothing = sym k.5 }
+one_look first me q w n c after f [] seen v number floor found a (inr k) =
+    absurd (let lt = has_below v q w number floor found seen (next_look first seen) (looks_drawn first seen a.0).below k in omega (arith, lt, a.1))
+one_look first me q w n c after f (Looked v' p u m d after' f' past ∷ since) seen v number floor found a (inl k) =
+    let h = since ++ Looked me q w n c after f None ∷ seen in
+    let here : HasLook me q w n f None h = has_later me q w n f None since (Looked me q w n c after f None ∷ seen) (inl (refl, refl, refl, refl, refl, refl)) in
+    absurd (let lt = has_below me q w n f None h (next_look first h) (looks_drawn first h a.0).below here in omega (arith, lt, a.1, k.1))
+one_look first me q w n c after f (Looked v' p u m d after' f' past ∷ since) seen v number floor found a (inr k) = one_look first me q w n c after f since seen v number floor found a.0 k
+one_look first me q w n c after f (e ∷ since) seen v number floor found a k = one_look first me q w n c after f since seen v number floor found a.0 k
+
+pub answer_tells_look : AnswerTellsLook
+answer_tells_look first h o me w c q look v n number floor found g slot newer older is =
+    let made = Made v w n (LookAnswer number q floor found g slot) in
+    let answers : HasLook v q w number floor found older = (along_right AnswersAt newer (made ∷ older) (subst (Along AnswersAt) is o.answers)).1 in
+    let has : HasLook v q w number floor found h = subst (HasLook v q w number floor found) (sym is) (has_later v q w number floor found newer (made ∷ older) answers) in
+    one_look first me q w look.number c look.after look.floor look.since look.seen v number floor found (subst (Along (DrawsNext first)) look.place o.draws) (subst (HasLook v q w number floor found) look.place has)

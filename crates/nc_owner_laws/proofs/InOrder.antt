@@ -1,9 +1,10 @@
 -- Each step of an owner keeps what stands at each place of its history.
-use Rattle.std.proofs.Common.{◌≡◌, ℕ, zero, suc, ◌+◌, Bool, true, false, cond, List, [], ◌∷◌, ◌++◌, Option, Some, None, refl, sym, ap, ◌∙◌, subst, length, map, find}
+use Rattle.std.proofs.Common.{◌≡◌, inl, ℕ, zero, suc, ◌+◌, Bool, true, false, cond, List, [], ◌∷◌, ◌++◌, Option, Some, None, refl, sym, ap, ◌∙◌, subst, length, map, find}
 use Rattle.std.specs.Option.{option_map}
 use Rattle.std.specs.List.{AllByRecursion}
 use Rattle.nc_types.specs.Id.{Id, is_past}
 use Rattle.nc_types.specs.Message.{Message}
+use Rattle.nc_types.specs.declared.info.Info.{Info}
 use Rattle.nc_journal.specs.History.{onto, Along}
 use Rattle.nc_journal.specs.Stamp.{IsStamped, floor_of}
 use Rattle.nc_journal.specs.Message.{Message as Stored_message, buffer, first_past as first_message}
@@ -11,6 +12,7 @@ use Rattle.nc_journal.specs.declared.event.Event.{Event}
 use Rattle.nc_journal.specs.declared.event.Event.TheVariants.{Stored, Left, Joined, Parted, Granted, Looked, Removed, Made}
 use Rattle.nc_journal.specs.declared.word.LeftCause.{LeftCause}
 use Rattle.nc_journal.specs.declared.word.LeftCause.TheVariants.{Expired, Spent, Length}
+use Rattle.nc_journal.specs.declared.alert.AlertLine.{AlertLine}
 use Rattle.nc_journal.specs.declared.alert.AlertLine.TheVariants as lines
 use Rattle.nc_buffer.specs.declared.entry.Entry.{Entry}
 use Rattle.nc_buffer.specs.Buffer.{is_expired, is_spent, first_past, with_grant}
@@ -21,7 +23,7 @@ use Rattle.nc_owner.specs.declared.member.Member.{Member}
 use Rattle.nc_owner.specs.declared.order.Order.{Order}
 use Rattle.nc_owner.specs.Members.{has_member}
 use Rattle.nc_owner.specs.Line.{OutLine}
-use Rattle.nc_owner.specs.State.{OwnerAt, entries_of, found, opened, bench_of}
+use Rattle.nc_owner.specs.State.{OwnerAt, entries_of, found, opened, exists, bench_of}
 use Rattle.nc_owner.specs.Leave.{left_event, leavers, spend_events}
 use Rattle.nc_owner.specs.Poll.{free_slots, freed_event, freed_events}
 use Rattle.nc_owner.specs.Publish.{Polls, Outcome, late, full, stored, asked, roomy, leaving, lowest_slot, granted_events, notices, answer, stored_status, info_of, store_bench, stored_event, stamp, post_events, post_alerts, publish_cleared, publish_outcome, cleared_events}
@@ -32,8 +34,8 @@ use Rattle.nc_owner_laws.specs.Filters.{new_desk}
 use Rattle.nc_owner_laws.specs.Buffered.{Brief, brief_entry, brief_message, entries_in, LeavesStored}
 use Rattle.nc_owner_laws.specs.Weave.{weave, makes, numbered}
 use Rattle.nc_owner_laws.specs.Standing.{Stands}
-use Rattle.nc_owner_laws.specs.Removal.{IsLeft}
-use Rattle.nc_owner_laws.specs.InOrder.{TellsThen, next_look, next_grant, InOrder, NewInOrder, OthersInOrder, PublishInOrder, RemovalInOrder}
+use Rattle.nc_owner_laws.specs.Removal.{IsLeft, IsOfRemoval}
+use Rattle.nc_owner_laws.specs.InOrder.{TellsThen, next_look, next_grant, AnswersLook, InOrder, NewInOrder, OthersInOrder, PublishInOrder, RemovalInOrder}
 use Rattle.nc_owner_laws.proofs.Kept.{all_append}
 use Rattle.nc_owner_laws.proofs.Events.{name_self}
 use Rattle.nc_owner_laws.proofs.After.{name_is, found_after}
@@ -44,28 +46,47 @@ use Rattle.nc_owner_laws.proofs.Filtering.{desk_law}
 use Rattle.nc_owner_laws.proofs.Buffering.{buffer_law}
 use Rattle.nc_owner_laws.proofs.Hearing as hearing
 use Rattle.nc_owner_laws.proofs.Hearing.{IsStill, told_events}
-use Rattle.nc_owner_laws.proofs.Owners.{all_woven, calm_onto}
+use Rattle.nc_owner_laws.proofs.Owners.{calm_onto}
 use Rattle.nc_owner_laws.proofs.Removal.{removal_is}
 use Rattle.nc_owner_laws.proofs.OwnerSteps.{behind, front_stored, calm_found, found_buffer}
 
 pub new_in_order : NewInOrder
-new_in_order first = record { looks = tt; draws = tt }
+new_in_order first = record { looks = tt; draws = tt; answers = tt }
 
--- ---- events that are neither looks nor grants
+-- ---- events that are neither looks nor grants nor answers to looks
+
+abbrev IsNoAnswer : AlertLine → Type 0
+IsNoAnswer (lines.LookAnswer number q floor past g slot) = ⊥
+IsNoAnswer _ = Unit {0}
 
 abbrev pub IsPassive : Event → Type 0
 IsPassive (Looked w q from number c after floor past) = ⊥
 IsPassive (Granted w g slot to) = ⊥
+IsPassive (Made v to n a) = IsNoAnswer a
 IsPassive _ = Unit {0}
+
+no_answer : (v to : ℕ) (h : List Event) (a : AlertLine) → IsNoAnswer a → AnswersLook v to h a
+no_answer v to h (lines.LookAnswer number q floor past g slot) p = absurd p
+no_answer v to h a p = tt
 
 passive_one : (first : ℕ) (e : Event) (h : List Event) → IsPassive e → InOrder first h → InOrder first (e ∷ h)
 passive_one first (Looked w q from number c after floor past) h p k = absurd p
 passive_one first (Granted w g slot to) h p k = absurd p
-passive_one first e h p k = record { looks = (k.looks, tt); draws = (k.draws, tt) }
+passive_one first (Made v to n a) h p k = record { looks = (k.looks, tt); draws = (k.draws, tt); answers = (k.answers, no_answer v to h a p) }
+passive_one first e h p k = record { looks = (k.looks, tt); draws = (k.draws, tt); answers = (k.answers, tt) }
 
 pub passive_onto : (first : ℕ) (es h : List Event) → AllByRecursion IsPassive es → InOrder first h → InOrder first (onto es h)
 passive_onto first [] h p k = k
 passive_onto first (e ∷ es) h p k = passive_onto first es (e ∷ h) p.1 (passive_one first e h p.0 k)
+
+passive_makes : (v : ℕ) (next : ℕ → ℕ) (alerts : List OutLine) → AllByRecursion (λ a. IsNoAnswer a.line) alerts → AllByRecursion IsPassive (makes v next alerts)
+passive_makes v next [] n = tt
+passive_makes v next (a ∷ alerts) n = (n.0, passive_makes v (numbered next a.to) alerts n.1)
+
+passive_weave : (v : ℕ) (next : ℕ → ℕ) (es : List Event) (alerts : List OutLine) → AllByRecursion IsPassive es → AllByRecursion (λ a. IsNoAnswer a.line) alerts → AllByRecursion IsPassive (weave v next es alerts)
+passive_weave v next [] alerts p n = passive_makes v next alerts n
+passive_weave v next (Granted w g slot to ∷ es) (a ∷ alerts) p n = absurd p.0
+passive_weave v next (e ∷ es) alerts p n = (p.0, passive_weave v next es alerts p.1 n)
 
 same_look : (first : ℕ) (e : Event) (h : List Event) → IsPassive e → next_look first (e ∷ h) ≡ next_look first h
 same_look first (Looked w q from number c after floor past) h p = absurd p
@@ -157,17 +178,17 @@ same_found after es ms same =
     ∙ ap (find (λ (i : Id). is_past i after)) (sym (entry_ids es) ∙ ap (map brief_id) same ∙ message_ids ms)
     ∙ sym (ids_found message_id (λ i. is_past i after) ms)
 
-found_places : (first v : ℕ) (next : ℕ → ℕ) (from number : ℕ) (c : List ℕ) (id : Id) (x : Option Entry) (d : Desk) (h : List Event) → TellsThen c id d.floor (option_map id_of x) h → d.looks ≡ next_look first h → d.grants ≡ next_grant first h → InOrder first h
+found_places : (first v : ℕ) (next : ℕ → ℕ) (from number : ℕ) (c : List ℕ) (id : Id) (x : Option Entry) (d : Desk) (h : List Event) → TellsThen c id d.floor (option_map id_of x) h → d.me ≡ v → d.looks ≡ next_look first h → d.grants ≡ next_grant first h → InOrder first h
     → InOrder first (onto (weave v next (looked_event from number c id x d ∷ found_events from x d) (found_line from number x d ∷ [])) h)
-found_places first v next from number c id None d h t q g k = record { looks = ((k.looks, t), tt); draws = ((k.draws, q), tt) }
-found_places first v next from number c id (Some e) d h t q g k = record { looks = (((k.looks, t), tt), tt); draws = (((k.draws, q), g), tt) }
+found_places first v next from number c id None d h t me q g k = record { looks = ((k.looks, t), tt); draws = ((k.draws, q), tt); answers = ((k.answers, tt), inl (me, refl, refl, refl, refl, refl)) }
+found_places first v next from number c id (Some e) d h t me q g k = record { looks = (((k.looks, t), tt), tt); draws = (((k.draws, q), g), tt); answers = (((k.answers, tt), tt), inl (me, refl, refl, refl, refl, refl)) }
 
 -- ---- the notices of a publish
 
-told_places : (first v v' : ℕ) (next : ℕ → ℕ) (c : List ℕ) (id : Id) (slot g : ℕ) (marks : List ℕ) (out : OutLine) (h : List Event) → g ≡ next_grant first h → InOrder first h → InOrder first (onto (told_events v v' next c id slot g marks out) h)
-told_places first v v' next c id slot g [] out h e k = record { looks = (k.looks, tt); draws = (k.draws, tt) }
-told_places first v v' next c id slot g (to ∷ marks) out h e k =
-    told_places first v v' (numbered next to) c id slot (g + 1) marks out (Made v to (next to) (lines.Notice c id g slot) ∷ Granted v' g slot to ∷ h) refl (record { looks = ((k.looks, tt), tt); draws = ((k.draws, e), tt) })
+told_places : (first v v' : ℕ) (next : ℕ → ℕ) (c : List ℕ) (id : Id) (slot g : ℕ) (marks : List ℕ) (out : OutLine) (h : List Event) → IsNoAnswer out.line → g ≡ next_grant first h → InOrder first h → InOrder first (onto (told_events v v' next c id slot g marks out) h)
+told_places first v v' next c id slot g [] out h n e k = passive_one first (Made v out.to (next out.to) out.line) h n k
+told_places first v v' next c id slot g (to ∷ marks) out h n e k =
+    told_places first v v' (numbered next to) c id slot (g + 1) marks out (Made v to (next to) (lines.Notice c id g slot) ∷ Granted v' g slot to ∷ h) n refl (record { looks = ((k.looks, tt), tt); draws = ((k.draws, e), tt); answers = ((k.answers, tt), tt) })
 
 module _ (me workers slots first : ℕ) (next : ℕ → ℕ) (row : List (Slot Message)) (h : List Event) (s : OwnerAt) (k : Stands me workers slots first row h s) where
   is_look_number : s.desk.looks ≡ next_look first h
@@ -210,8 +231,8 @@ module _ (me workers slots first : ℕ) (next : ℕ → ℕ) (row : List (Slot M
       same_found id es (buffer c (onto front h)) (sym (counted_briefs (first_past id es) es) ∙ sym has ∙ law ∙ ap (map brief_message) sees)
 
   module _ (o : InOrder first h) where
-    passive_woven : (es : List Event) (alerts : List OutLine) → AllByRecursion IsPassive es → InOrder first (onto (weave s.desk.me next es alerts) h)
-    passive_woven es alerts p = passive_onto first (weave s.desk.me next es alerts) h (all_woven IsPassive s.desk.me next (λ to n a. tt) es alerts p) o
+    passive_woven : (es : List Event) (alerts : List OutLine) → AllByRecursion IsPassive es → AllByRecursion (λ a. IsNoAnswer a.line) alerts → InOrder first (onto (weave s.desk.me next es alerts) h)
+    passive_woven es alerts p n = passive_onto first (weave s.desk.me next es alerts) h (passive_weave s.desk.me next es alerts p n) o
 
     look_places : (from number : ℕ) (c : List ℕ) (id : Id) → InOrder first (onto (weave s.desk.me next (look_events from number c id row s) (look_alerts from number c id row s)) h)
     look_places from number c id =
@@ -226,21 +247,26 @@ module _ (me workers slots first : ℕ) (next : ℕ → ℕ) (row : List (Slot M
         (hearing.still_append (touch_events_of c row s) spend (hearing.still_touch c row s) (hearing.still_left s.desk.me c Spent (leavers is_spent (touched_of c row s))))
         (found_places first s.desk.me next from number c id x b.desk (onto front h)
         (record { floor_then = is_floor ∙ sym (front_floor c); first_then = look_first from number c id })
+        refl
         (is_look_number ∙ sym (passive_look first front h p))
         (is_grant_number ∙ sym (passive_grant first front h p))
         (passive_onto first front h p o))
 
+info_none : (b : Bool) (r : ℕ) (info : Info) → IsNoAnswer (cond b (lines.InfoAnswer r 200 (Some info)) (lines.InfoAnswer r 404 None))
+info_none true r info = tt
+info_none false r info = tt
+
 pub others_in_order : OthersInOrder
 others_in_order me workers slots first next row h s k o = record {
   join = λ m c. passive_woven me workers slots first next row h s k o (touch_events_of c row s ++ Joined s.desk.me c m.from m.k ∷ []) []
-      (all_append IsPassive (touch_events_of c row s) (Joined s.desk.me c m.from m.k ∷ []) (passive_touch me workers slots first next row h s k c) (tt, tt));
+      (all_append IsPassive (touch_events_of c row s) (Joined s.desk.me c m.from m.k ∷ []) (passive_touch me workers slots first next row h s k c) (tt, tt)) tt;
   part = λ m c. passive_woven me workers slots first next row h s k o (touch_events_of c row s ++ parted_events s.desk.me m c (opened c s)) []
-      (all_append IsPassive (touch_events_of c row s) (parted_events s.desk.me m c (opened c s)) (passive_touch me workers slots first next row h s k c) (passive_parted (has_member m (opened c s).members) s.desk.me c m));
-  info = λ from r c. passive_woven me workers slots first next row h s k o (touch_events_of c row s) (info_alerts from r c row s) (passive_touch me workers slots first next row h s k c);
-  sweep = λ c. passive_woven me workers slots first next row h s k o (touch_events_of c row s) [] (passive_touch me workers slots first next row h s k c);
+      (all_append IsPassive (touch_events_of c row s) (parted_events s.desk.me m c (opened c s)) (passive_touch me workers slots first next row h s k c) (passive_parted (has_member m (opened c s).members) s.desk.me c m)) tt;
+  info = λ from r c. passive_woven me workers slots first next row h s k o (touch_events_of c row s) (info_alerts from r c row s) (passive_touch me workers slots first next row h s k c) (info_none (exists c s) r (info_of (touched_of c row s).channel), tt);
+  sweep = λ c. passive_woven me workers slots first next row h s k o (touch_events_of c row s) [] (passive_touch me workers slots first next row h s k c) tt;
   look = look_places me workers slots first next row h s k o;
-  polled = λ answers. passive_woven me workers slots first next row h s k o (polled_events answers s) [] (passive_freed s.desk.me (free_slots answers));
-  clock = λ now. record { looks = (o.looks, tt); draws = (o.draws, tt) };
+  polled = λ answers. passive_woven me workers slots first next row h s k o (polled_events answers s) [] (passive_freed s.desk.me (free_slots answers)) tt;
+  clock = λ now. record { looks = (o.looks, tt); draws = (o.draws, tt); answers = (o.answers, tt) };
 }
 
 -- ---- a publish
@@ -276,7 +302,7 @@ module _ (me workers slots first : ℕ) (next : ℕ → ℕ) (from : ℕ) (o : O
       let passive : AllByRecursion IsPassive room = all_append IsPassive lefts freed (passive_left s.desk.me c Length go) (passive_freed s.desk.me (free_slots polls.left)) in
       let stored_places : InOrder first (event ∷ onto room h1) = passive_one first event (onto room h1) tt (passive_onto first room h1 passive clear_places) in
       behind (InOrder first) s.desk.me next room (event ∷ grants) alerts h1 still
-      (told_places first s.desk.me s.desk.me next c (stamp r) slot s.desk.grants marks out (event ∷ onto room h1)
+      (told_places first s.desk.me s.desk.me next c (stamp r) slot s.desk.grants marks out (event ∷ onto room h1) tt
       (is_grant_number me workers slots first next row h s k ∙ sym (passive_grant first clear h clear_passive) ∙ sym (passive_grant first room h1 passive))
       stored_places)
 
@@ -296,7 +322,15 @@ passive_lefts (e ∷ es) l = (by e l.0, passive_lefts es l.1)
     by (Left w c id slot cause) l = tt
     by e l = absurd l
 
+removal_none : (c : List ℕ) (alerts : List OutLine) → AllByRecursion (λ a. IsOfRemoval c a.line) alerts → AllByRecursion (λ a. IsNoAnswer a.line) alerts
+removal_none c [] p = tt
+removal_none c (a ∷ alerts) p = (by a.line p.0, removal_none c alerts p.1)
+  where
+    by : (line : AlertLine) → IsOfRemoval c line → IsNoAnswer line
+    by (lines.LookAnswer number q floor past g slot) p = absurd p
+    by line p = tt
+
 pub removal_in_order : RemovalInOrder
-removal_in_order first h v next c last cause lefts alerts l k = subst (InOrder first) (sym (removal_is v next c last cause lefts alerts h l))
-    (passive_onto first (Removed v c last cause ∷ makes v next alerts) (onto lefts h) (tt, all_woven IsPassive v next (λ to n a. tt) [] alerts tt)
+removal_in_order first h v next c last cause lefts alerts l p k = subst (InOrder first) (sym (removal_is v next c last cause lefts alerts h l))
+    (passive_onto first (Removed v c last cause ∷ makes v next alerts) (onto lefts h) (tt, passive_makes v next alerts (removal_none c alerts p))
     (passive_onto first lefts h (passive_lefts lefts l) k))

@@ -1,12 +1,13 @@
 -- What stands behind a look that found nothing: the messages stored since, and what woke it.
-use Rattle.std.specs.Prelude.{◌≡◌, ℕ, ◌≤◌, true, false, List, [], ◌∷◌, ◌++◌, None, Some}
+use Rattle.std.specs.Prelude.{◌≡◌, ℕ, ◌≤◌, true, false, List, [], ◌∷◌, ◌++◌, Option, None, Some}
 use Rattle.std.specs.List.{AllByRecursion}
 use Rattle.nc_types.specs.Id.{Id, IsPast, is_past}
 use Rattle.nc_types.specs.Message.{Message as Stored_message}
 use Rattle.nc_journal.specs.Stamp.{floor_of}
 use Rattle.nc_journal.specs.Message.{Message, published, buffer}
 use Rattle.nc_journal.specs.declared.event.Event.{Event}
-use Rattle.nc_journal.specs.declared.event.Event.TheVariants.{Looked}
+use Rattle.nc_journal.specs.declared.event.Event.TheVariants.{Looked, Made}
+use Rattle.nc_journal.specs.declared.alert.AlertLine.TheVariants.{LookAnswer}
 use Rattle.nc_slots.specs.declared.slot.Slot.{Slot}
 use Rattle.nc_owner.specs.Ascending.{has_number}
 use Rattle.nc_owner.specs.Rules.{NonePast}
@@ -42,7 +43,7 @@ pub record IsFirstOf (id : Id) (ms : List Message) : Type 0 where
   pub same : first.id ≡ id
   pub later : AllByRecursion (λ m. IsPast m.id id) others
 
--- the message that woke a look is the first one stored behind it
+-- the message that woke a look is the first one stored behind it; its id may be below the look's, which may lie ahead of all messages
 pub record WokenByFirst (me w : ℕ) (c : List ℕ) (q : ℕ) (id : Id) (h : List Event) : Type 0 where
   pub look : LookPlace me w c q h
   pub first : IsFirstOf id (published c look.since)
@@ -63,3 +64,13 @@ pub record StillWaits (me w : ℕ) (c : List ℕ) (q : ℕ) (h : List Event) (s 
 abbrev pub ShowsLooks : Type 0
 ShowsLooks = (me workers slots first : ℕ) (row : List (Slot Stored_message)) (h : List Event) (s : OwnerAt) → Stands me workers slots first row h s → InOrder first h
     → (w : ℕ) (c : List ℕ) (q : ℕ) → wake w c q h ≡ Waiting → StillWaits me w c q h s
+
+-- the answer to a look that found nothing tells the number and the floor of that look, and that nothing was found
+pub record AnswersPlace (number floor : ℕ) (found : Option Id) (look_number look_floor : ℕ) : Type 0 where
+  pub same_number : look_number ≡ number
+  pub same_floor : look_floor ≡ floor
+  pub nothing : found ≡ None
+
+abbrev pub AnswerTellsLook : Type 0
+AnswerTellsLook = (first : ℕ) (h : List Event) → InOrder first h → (me w : ℕ) (c : List ℕ) (q : ℕ) (look : LookPlace me w c q h) (v n number floor : ℕ) (found : Option Id) (g slot : Option ℕ) (newer older : List Event)
+    → h ≡ newer ++ Made v w n (LookAnswer number q floor found g slot) ∷ older → AnswersPlace number floor found look.number look.floor

@@ -1,5 +1,6 @@
--- At each place of an owner's history a look tells what the owner has then, and looks and grants draw the next number.
-use Rattle.std.specs.Prelude.{◌≡◌, ℕ, ◌+◌, List, [], ◌∷◌, Option}
+-- At each place of an owner's history a look tells what the owner has then, looks and grants draw the next number,
+-- and the answer to a look tells what stands in the look's event.
+use Rattle.std.specs.Prelude.{◌≡◌, ◌⊎◌, ℕ, ◌+◌, List, [], ◌∷◌, Option}
 use Rattle.std.specs.Option.{option_map}
 use Rattle.std.specs.List.{AllByRecursion}
 use Rattle.nc_types.specs.Id.{Id}
@@ -8,8 +9,10 @@ use Rattle.nc_journal.specs.History.{onto, Along}
 use Rattle.nc_journal.specs.Stamp.{floor_of}
 use Rattle.nc_journal.specs.Message.{first_past}
 use Rattle.nc_journal.specs.declared.event.Event.{Event}
-use Rattle.nc_journal.specs.declared.event.Event.TheVariants.{Looked, Granted, Clock}
+use Rattle.nc_journal.specs.declared.event.Event.TheVariants.{Looked, Granted, Clock, Made}
 use Rattle.nc_journal.specs.declared.word.RemovedCause.{RemovedCause}
+use Rattle.nc_journal.specs.declared.alert.AlertLine.{AlertLine}
+use Rattle.nc_journal.specs.declared.alert.AlertLine.TheVariants.{LookAnswer}
 use Rattle.nc_slots.specs.declared.slot.Slot.{Slot}
 use Rattle.nc_owner.specs.declared.member.Member.{Member}
 use Rattle.nc_owner.specs.declared.order.Order.{Order}
@@ -21,7 +24,7 @@ use Rattle.nc_owner.specs.Look.{look_events, look_alerts}
 use Rattle.nc_owner.specs.Calls.{touch_events_of, join_events, part_events, info_alerts, polled_events}
 use Rattle.nc_owner_laws.specs.Weave.{weave}
 use Rattle.nc_owner_laws.specs.Standing.{Stands}
-use Rattle.nc_owner_laws.specs.Removal.{IsLeft, removal_onto}
+use Rattle.nc_owner_laws.specs.Removal.{IsLeft, IsOfRemoval, removal_onto}
 
 -- a look tells the floor, and the id of the first message of the channel's buffer past its own id
 pub record TellsThen (c : List ℕ) (after : Id) (floor : ℕ) (found : Option Id) (h : List Event) : Type 0 where
@@ -48,10 +51,25 @@ DrawsNext first h (Looked w q from number c after floor found) = q ≡ next_look
 DrawsNext first h (Granted w g slot to) = g ≡ next_grant first h
 DrawsNext first h _ = Unit {0}
 
+-- a history has a look of an owner: its number, the worker, the worker's number, the floor and what was found
+abbrev pub HasLook : (v q u number floor : ℕ) → Option Id → List Event → Type 0
+HasLook v q u number floor found [] = ⊥
+HasLook v q u number floor found (Looked w p from n c after f past ∷ h) = ((w ≡ v) × (p ≡ q) × (from ≡ u) × (n ≡ number) × (f ≡ floor) × (past ≡ found)) ⊎ HasLook v q u number floor found h
+HasLook v q u number floor found (e ∷ h) = HasLook v q u number floor found h
+
+abbrev pub AnswersLook : (v to : ℕ) → List Event → AlertLine → Type 0
+AnswersLook v to h (LookAnswer number q floor found g slot) = HasLook v q to number floor found h
+AnswersLook v to h _ = Unit {0}
+
+abbrev pub AnswersAt : List Event → Event → Type 0
+AnswersAt h (Made v to n a) = AnswersLook v to h a
+AnswersAt h _ = Unit {0}
+
 -- a history in which this is so at each place, where the numbers begin with a first one
 pub record InOrder (first : ℕ) (h : List Event) : Type 0 where
   pub looks : Along LooksAt h
   pub draws : Along (DrawsNext first) h
+  pub answers : Along AnswersAt h
 
 abbrev pub NewInOrder : Type 0
 NewInOrder = (first : ℕ) → InOrder first []
@@ -76,4 +94,4 @@ PublishInOrder = (me workers slots first : ℕ) (next : ℕ → ℕ) (from : ℕ
 -- a removal of a channel keeps it
 abbrev pub RemovalInOrder : Type 0
 RemovalInOrder = (first : ℕ) (h : List Event) (v : ℕ) (next : ℕ → ℕ) (c : List ℕ) (last : Id) (cause : RemovedCause) (lefts : List Event) (alerts : List OutLine)
-    → AllByRecursion IsLeft lefts → InOrder first h → InOrder first (removal_onto v next c last cause lefts alerts h)
+    → AllByRecursion IsLeft lefts → AllByRecursion (λ a. IsOfRemoval c a.line) alerts → InOrder first h → InOrder first (removal_onto v next c last cause lefts alerts h)

@@ -1,5 +1,5 @@
 //! What stands at each place of an owner's history, and what follows for its looks and its numbers.
-ghost use Rattle.nc_owner_laws.specs.Behind.{NoticeIsFirst, ShowsLooks};
+ghost use Rattle.nc_owner_laws.specs.Behind.{NoticeIsFirst, ShowsLooks, AnswerTellsLook};
 ghost use Rattle.nc_owner_laws.specs.Drawn.{DrawnOnce};
 ghost use Rattle.nc_owner_laws.specs.InOrder.{NewInOrder, OthersInOrder, PublishInOrder, RemovalInOrder};
 
@@ -36,4 +36,9 @@ pub fn shows_looks()
 /// Each number of a look and of a grant is drawn once, and a look is made at one channel only.
 pub fn drawn_once()
     ensures { DrawnOnce }
+{}
+
+/// The answer to a look that found nothing tells that look's number and floor.
+pub fn answer_tells_look()
+    ensures { AnswerTellsLook }
 {}
