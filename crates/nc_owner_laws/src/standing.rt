@@ -12,7 +12,7 @@ pub fn others_stand()
     ensures { OthersStand }
 {}
 
-/// A publish keeps it, where no leaving slot becomes held while it leaves.
+/// A publish keeps it.
 pub fn publish_stands()
     ensures { PublishStands }
 {}
