@@ -8,10 +8,10 @@ use Rattle.nc_owner.specs.declared.order.Order.{Order}
 use Rattle.nc_owner.specs.declared.poll.PollAnswer.{PollAnswer}
 use Rattle.nc_owner.specs.Ascending.{ascending}
 use Rattle.nc_owner.specs.Line.{OutLine}
-use Rattle.nc_owner.specs.Poll.{PollsOf, told_answer}
+use Rattle.nc_owner.specs.Poll.{PollsOf, AnswersFit, told_answer}
 use Rattle.nc_owner.specs.Posted.{IsPosted, Posts, TakesSlot}
 use Rattle.nc_owner.specs.State.{Bench}
-use Rattle.nc_owner.specs.Publish.{Polls, Outcome, late, full, stored, outcome, outcome_by, usage_of, is_full, stamp, leaving, slots_of, LeavingPolls, is_stored, post_events, post_alerts, post_bench, post_holds, answer, asked, store_events, store_alerts, store_bench, store_holds, roomy}
+use Rattle.nc_owner.specs.Publish.{Polls, Outcome, late, full, stored, outcome, outcome_by, usage_of, is_full, stamp, leaving, left_slots, slots_of, LeavingPolls, is_late, is_stored, post_events, post_alerts, post_bench, post_holds, answer, asked, store_events, store_alerts, store_bench, store_holds, roomy}
 use Rattle.nc_owner.proofs.Polls.{polls_told}
 
 false_true : false ≡ true → ⊥
@@ -36,19 +36,25 @@ pub late_posts : (exact : Bool) (from : ℕ) (o : Order) (first : List PollAnswe
 late_posts exact from o first b counts done before events lines is d e a =
     let slots = slots_of (leaving o.length b) in
     let polls : Polls = record { retired = first; leaving = map (told_answer counts) slots; left = map (told_answer counts) (ascending slots) } in
-    let usage = usage_of o.length polls b in (
+    let usage = usage_of o.length polls b in
+    let x : outcome o.length polls b ≡ late = ap (λ (t : Bool). outcome_by t (is_full b.desk.slots usage) usage) is in (
       polls,
       refl,
-      record { before = polls_told exact counts slots; after_leaving = polls_told exact counts (ascending slots) },
-      posted_by exact from o polls b counts done before events lines b counts late (ap (λ (t : Bool). outcome_by t (is_full b.desk.slots usage) usage) is) d (e ∙ sym (append-nil before)) a refl (λ k. refl) (λ yes_done. absurd (false_true (sym d ∙ yes_done))),
+      record {
+        before = polls_told exact counts slots;
+        after_leaving = polls_told exact counts (ascending slots);
+        before_fit = λ h. absurd (false_true (sym h ∙ ap is_late x));
+        after_leaving_fit = λ h. absurd (false_true (sym (ap is_stored x) ∙ h));
+      },
+      posted_by exact from o polls b counts done before events lines b counts late x d (e ∙ sym (append-nil before)) a refl (λ k. refl) (λ yes_done. absurd (false_true (sym d ∙ yes_done))),
     )
 
 pub full_posts : (exact : Bool) (from : ℕ) (o : Order) (first asked_answers : List PollAnswer) (b : Bench) (counts new_counts : List ℕ) (done : Bool) (before events : List Event) (lines : List OutLine) (usage : FullLine) (bench : Bench)
     → nat_le (stamp b).time 253402300799 ≡ true → usage ≡ usage_of o.length (record { retired = first; leaving = asked_answers; left = [] }) b → is_full b.desk.slots usage ≡ true
-    → PollsOf exact counts (slots_of (leaving o.length b)) asked_answers → bench ≡ asked asked_answers b → (exact ≡ true → new_counts ≡ counts)
+    → PollsOf exact counts (slots_of (leaving o.length b)) asked_answers → AnswersFit b.row asked_answers → bench ≡ asked asked_answers b → (exact ≡ true → new_counts ≡ counts)
     → done ≡ false → events ≡ before → lines ≡ answer from o.r 507 None (Some usage) ∷ []
     → Posts exact from o first b counts done before events lines bench new_counts
-full_posts exact from o first asked_answers b counts new_counts done before events lines usage bench is is_usage is_full_usage p t h d e a =
+full_posts exact from o first asked_answers b counts new_counts done before events lines usage bench is is_usage is_full_usage p fit t h d e a =
     let slots = slots_of (leaving o.length b) in
     let polls : Polls = record { retired = first; leaving = asked_answers; left = map (told_answer counts) (ascending slots) } in
     let x : outcome o.length polls b ≡ full usage =
@@ -56,23 +62,23 @@ full_posts exact from o first asked_answers b counts new_counts done before even
     ∙ (ap (λ (u : FullLine). outcome_by true (is_full b.desk.slots u) u) (sym is_usage) ∙ ap (λ (y : Bool). outcome_by true y usage) is_full_usage) in (
       polls,
       refl,
-      record { before = p; after_leaving = polls_told exact counts (ascending slots) },
+      record { before = p; after_leaving = polls_told exact counts (ascending slots); before_fit = λ _. fit; after_leaving_fit = λ h. absurd (false_true (sym (ap is_stored x) ∙ h)) },
       posted_by exact from o polls b counts done before events lines bench new_counts (full usage) x d (e ∙ sym (append-nil before)) a t h (λ yes_done. absurd (false_true (sym d ∙ yes_done))),
     )
 
 pub stored_posts : (exact : Bool) (from : ℕ) (o : Order) (first asked_answers left : List PollAnswer) (b b2 : Bench) (counts new_counts : List ℕ) (done : Bool) (before events : List Event) (lines : List OutLine) (usage : FullLine) (bench : Bench)
     → nat_le (stamp b).time 253402300799 ≡ true → usage ≡ usage_of o.length (record { retired = first; leaving = asked_answers; left = [] }) b → is_full b.desk.slots usage ≡ false
-    → PollsOf exact counts (slots_of (leaving o.length b)) asked_answers → PollsOf exact counts (ascending (slots_of (leaving o.length b))) left → b2 ≡ asked asked_answers b
+    → PollsOf exact counts (slots_of (leaving o.length b)) asked_answers → AnswersFit b.row asked_answers → PollsOf exact counts (ascending (slots_of (leaving o.length b))) left → AnswersFit (left_slots o.length b2) left → b2 ≡ asked asked_answers b
     → TakesSlot (roomy o.length left b2) → done ≡ true → events ≡ before ++ store_events from o left b2 → lines ≡ store_alerts from o left b2 → bench ≡ store_bench o left b2 → (exact ≡ true → new_counts ≡ store_holds o left b2 counts)
     → Posts exact from o first b counts done before events lines bench new_counts
-stored_posts exact from o first asked_answers left b b2 counts new_counts done before events lines usage bench is is_usage is_full_usage p q t taken d e a be h =
+stored_posts exact from o first asked_answers left b b2 counts new_counts done before events lines usage bench is is_usage is_full_usage p fit q left_fit t taken d e a be h =
     let polls : Polls = record { retired = first; leaving = asked_answers; left = left } in
     let x : outcome o.length polls b ≡ stored =
     ap (λ (y : Bool). outcome_by y (is_full b.desk.slots (usage_of o.length polls b)) (usage_of o.length polls b)) is
     ∙ (ap (λ (u : FullLine). outcome_by true (is_full b.desk.slots u) u) (sym is_usage) ∙ ap (λ (y : Bool). outcome_by true y usage) is_full_usage) in (
       polls,
       refl,
-      record { before = p; after_leaving = q },
+      record { before = p; after_leaving = q; before_fit = λ _. fit; after_leaving_fit = λ _. subst (λ (y : Bench). AnswersFit (left_slots o.length y) left) t left_fit },
       posted_by exact from o polls b counts done before events lines bench new_counts stored x d
           (e ∙ ap (λ (y : Bench). before ++ store_events from o left y) t) (a ∙ ap (λ (y : Bench). store_alerts from o left y) t) (be ∙ ap (λ (y : Bench). store_bench o left y) t) (λ k. h k ∙ ap (λ (y : Bench). store_holds o left y counts) t) (λ k. subst (λ (y : Bench). TakesSlot (roomy o.length left y)) t taken),
     )

@@ -13,7 +13,7 @@ use Rattle.nc_owner.specs.declared.poll.PollAnswer.{PollAnswer}
 use Rattle.nc_owner.specs.Holds.{AllCarry}
 use Rattle.nc_owner.specs.Leave.{touched}
 use Rattle.nc_owner.specs.Line.{OutLine}
-use Rattle.nc_owner.specs.Poll.{PollsOf, told_answer}
+use Rattle.nc_owner.specs.Poll.{PollsOf, AnswersFit, told_answer}
 use Rattle.nc_owner.specs.Posted.{IsPosted, Posts, Publishes}
 use Rattle.nc_owner.specs.Rules.{NoneExpired, IsFresh}
 use Rattle.nc_owner.specs.State.{Bench, OwnerAt, at, entries_of, found, opened, exists, others, put_back, bench_of}
@@ -31,6 +31,7 @@ pub record Parts (exact : Bool) (from me : ℕ) (o : Order) (row : List (Slot Me
   pub clear_events : events1 ≡ before ++ cleared_events first o.chan (at s.desk row ch)
   pub clear_bench : at d1 (slots1 me) ch1 ≡ cleared first (at s.desk row ch)
   pub clear_polls : PollsOf exact counts (touched (at s.desk row ch)).desk.retired first
+  pub clear_fit : AnswersFit (touched (at s.desk row ch)).row first
   pub clear_holds : exact ≡ true → holds1 me ≡ counts
   pub posts : Posts exact from o first (at d1 (slots1 d1.me) ch1) (holds1 d1.me) done events1 events2 lines (at d2 (slots2 d1.me) ch2) (holds2 d1.me)
   pub is_stays : stays ≡ (existed || done)
@@ -53,17 +54,20 @@ published_by exact from me o row s counts first done existed stays slots1 slots2
     let f : first ≡ polls.retired = sym p2.1 in
     let ip : IsPosted exact from o polls (cleared polls.retired bb) (holds1 me) done events1 events2 lines after (holds2 me) =
     subst (λ (a : List PollAnswer). IsPosted exact from o polls (cleared a bb) (holds1 me) done events1 events2 lines after (holds2 me)) f p2.3 in
-    let leave_polls : LeavingPolls exact counts o.length (touched bb) polls =
-    record { before = polls_again exact counts (holds1 me) _ _ p.clear_holds p2.2.before; after_leaving = polls_again exact counts (holds1 me) _ _ p.clear_holds p2.2.after_leaving } in
+    let lp : LeavingPolls exact (holds1 me) o.length (cleared polls.retired bb) polls = subst (λ (a : List PollAnswer). LeavingPolls exact (holds1 me) o.length (cleared a bb) polls) f p2.2 in
+    let leave_polls : LeavingPolls exact counts o.length (cleared polls.retired bb) polls =
+    record { before = polls_again exact counts (holds1 me) _ _ p.clear_holds lp.before; after_leaving = polls_again exact counts (holds1 me) _ _ p.clear_holds lp.after_leaving; before_fit = lp.before_fit; after_leaving_fit = lp.after_leaving_fit } in
     let first_polls : PollsOf exact counts (touched bb).desk.retired polls.retired =
     subst (λ (a : List PollAnswer). PollsOf exact counts (touched bb).desk.retired a) f (subst (λ (x : Bench). PollsOf exact counts (touched x).desk.retired first) eb p.clear_polls) in
+    let first_fit : AnswersFit (touched bb).row polls.retired =
+    subst (λ (a : List PollAnswer). AnswersFit (touched bb).row a) f (subst (λ (x : Bench). AnswersFit (touched x).row first) eb p.clear_fit) in
     let ev : events1 ≡ cleared_events polls.retired o.chan bb =
     p.clear_events ∙ (ap (λ (l : List Event). l ++ cleared_events first o.chan (at s.desk row ch)) p.none
     ∙ (ap (λ (x : Bench). cleared_events first o.chan x) eb ∙ ap (λ (a : List PollAnswer). cleared_events a o.chan bb) f)) in
     let chs : chs2 ≡ put_back o.chan (exists o.chan s || is_stored (publish_outcome o polls row s)) (publish_bench o polls row s).channel (others o.chan s.channels) =
     p.back ∙ (λ i. put_back o.chan ((p.is_stays ∙ λ j. (p.was j || ip.kind j)) i) ((ap (λ (x : Bench). x.channel) ip.after_post) i) (p.is_rest i)) in (
       polls,
-      record { first = first_polls; others = leave_polls },
+      record { first = first_polls; first_fit = first_fit; others = leave_polls },
       record {
         happened = ip.happened ∙ ap (λ (l : List Event). l ++ post_events (publish_outcome o polls row s) from o polls (publish_cleared o polls row s)) ev;
         said = ip.said;

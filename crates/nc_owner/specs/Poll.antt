@@ -1,11 +1,11 @@
 -- Polls of slots, and what they free.
-use Rattle.std.specs.Prelude.{◌≡◌, ℕ, Bool, true, not, List, ◌==◌, map, filter, fold, slice_set, slice_index}
+use Rattle.std.specs.Prelude.{◌≡◌, ◌<◌, ℕ, Bool, true, not, List, [], ◌∷◌, ◌==◌, map, filter, fold, slice_set, slice_index}
 use Rattle.std.specs.List.{count_by}
 use Rattle.nc_types.specs.Message.{Message}
 use Rattle.nc_journal.specs.declared.event.Event.{Event}
 use Rattle.nc_journal.specs.declared.event.Event.TheVariants.{Freed}
 use Rattle.nc_slots.specs.declared.slot.Slot.{Slot}
-use Rattle.nc_slots.specs.Slot.{slot_at, polled}
+use Rattle.nc_slots.specs.Slot.{slot_at, polled, most_holds}
 use Rattle.nc_owner.specs.declared.desk.Desk.{Desk}
 use Rattle.nc_owner.specs.declared.poll.PollAnswer.{PollAnswer}
 use Rattle.nc_owner.specs.Ascending.{without_number}
@@ -34,6 +34,15 @@ told_answer counts slot = record { slot = slot; held = not (slice_index counts s
 pub record PollsOf (exact : Bool) (counts slots : List ℕ) (answers : List PollAnswer) : Type 0 where
   pub each : map slot_of answers ≡ slots
   pub told : exact ≡ true → answers ≡ map (told_answer counts) slots
+
+-- a poll shows a slot held only where it can be held: it was granted, and no poll has found it clear since
+abbrev pub AnswerFits : List (Slot Message) → PollAnswer → Type 0
+AnswerFits row a = a.held ≡ true → 0 < most_holds (slot_at row a.slot)
+
+-- so does each of some polls, one after the other
+abbrev pub AnswersFit : List (Slot Message) → List PollAnswer → Type 0
+AnswersFit row [] = Unit {0}
+AnswersFit row (a ∷ answers) = AnswerFits row a × AnswersFit (polled_slot row a) answers
 
 -- how many of the polled slots are held
 abbrev pub held_count : List PollAnswer → ℕ

@@ -20,7 +20,7 @@ use Rattle.nc_owner.specs.Ascending.{ascending, with_number}
 use Rattle.nc_owner.specs.State.{OwnerAt, Bench, entries_of, with_entries, exists, bench_of, after}
 use Rattle.nc_owner.specs.Line.{OutLine}
 use Rattle.nc_owner.specs.Leave.{left_event, left_by, left_row, touch_events, touched}
-use Rattle.nc_owner.specs.Poll.{PollsOf, polled_all, freed_events, polled_desk, freed_desk, held_count}
+use Rattle.nc_owner.specs.Poll.{PollsOf, AnswersFit, polled_all, freed_events, polled_desk, freed_desk, held_count}
 
 -- what the polls of a publish find: those of the retired slots, those of the leaving ones while they are buffered,
 -- and those of the leaving ones once they have left
@@ -67,6 +67,11 @@ pub data Outcome : Type 0 where
   -- there is no slot left
   full : FullLine → Outcome
   stored : Outcome
+
+abbrev pub is_late : Outcome → Bool
+is_late late = true
+is_late (full usage) = false
+is_late stored = false
 
 abbrev pub is_stored : Outcome → Bool
 is_stored late = false
@@ -239,15 +244,23 @@ publish_row o polls row s = (publish_bench o polls row s).row
 abbrev pub publish_holds : Order → Polls → List (Slot Message) → OwnerAt → List ℕ → List ℕ
 publish_holds o polls row s counts = post_holds (publish_outcome o polls row s) o polls (publish_cleared o polls row s) counts
 
--- these answers are those of the leaving slots' polls
+-- the slots where the leaving entries have left
+abbrev pub left_slots : ℕ → Bench → List (Slot Message)
+left_slots len b = fold left_row b.row (leaving len b)
+
+-- on a cleared bench, these answers are those of the leaving slots' polls. Where these polls are made, their answers fit the slots:
+-- while they are buffered unless the publish is late, and once they have left where the message is stored
 pub record LeavingPolls (exact : Bool) (counts : List ℕ) (len : ℕ) (b : Bench) (polls : Polls) : Type 0 where
   pub before : PollsOf exact counts (slots_of (leaving len b)) polls.leaving
   pub after_leaving : PollsOf exact counts (ascending (slots_of (leaving len b))) polls.left
+  pub before_fit : is_late (outcome len polls b) ≡ false → AnswersFit b.row polls.leaving
+  pub after_leaving_fit : is_stored (outcome len polls b) ≡ true → AnswersFit (left_slots len (asked polls.leaving b)) polls.left
 
--- these answers are those of the polls of a publish
+-- these answers are those of the polls of a publish, of which those of the retired slots fit the slots once the channel was touched
 pub record PublishPolls (exact : Bool) (counts : List ℕ) (o : Order) (row : List (Slot Message)) (s : OwnerAt) (polls : Polls) : Type 0 where
   pub first : PollsOf exact counts (touched (bench_of o.chan row s)).desk.retired polls.retired
-  pub others : LeavingPolls exact counts o.length (touched (bench_of o.chan row s)) polls
+  pub first_fit : AnswersFit (touched (bench_of o.chan row s)).row polls.retired
+  pub others : LeavingPolls exact counts o.length (publish_cleared o polls row s) polls
 
 -- a publish, by the answers of its polls
 pub record IsPublished (from : ℕ) (o : Order) (polls : Polls) (row : List (Slot Message)) (s : OwnerAt) (events : List Event) (lines : List OutLine) (new_row : List (Slot Message)) (new : OwnerAt) : Type 0 where

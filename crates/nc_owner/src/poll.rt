@@ -1,7 +1,7 @@
 //! Polls of slots.
 ghost use Rattle.std.specs.Prelude.{◌≡◌, ◌++◌, OnOk, IfOk, true, map};
 ghost use Rattle.nc_slots.specs.Slots.{is_held as shows_held};
-ghost use Rattle.nc_owner.specs.Poll.{polled_slot, polled_all, told_answer, slot_of, freed_events, polled_desk, freed_desk, held_count};
+ghost use Rattle.nc_owner.specs.Poll.{AnswerFits, AnswersFit, polled_slot, polled_all, told_answer, slot_of, freed_events, polled_desk, freed_desk, held_count};
 ghost use Rattle.nc_owner.specs.Pool.{SameOthers};
 
 use crate::desk::Desk;
@@ -30,6 +30,7 @@ fn is_held(polled: &Polled) -> bool
 /// What a poll of a slot finds.
 fn poll_one<P: Slots>(pool: &mut P, me: u8, slot: u32) -> PollAnswer
     ensures slot { slot_of result ≡ slot }
+    ensures fits { AnswerFits (P.slots pool.old me) result }
     ensures told { P.exact ≡ true → result ≡ told_answer (P.holds pool.old me) slot }
     ensures row { P.slots pool.new me ≡ polled_slot (P.slots pool.old me) result }
     ensures others { SameOthers me (P.slots pool.old) (P.slots pool.new) }
@@ -47,6 +48,7 @@ pub(crate) fn poll_each<P: Slots>(
     slots: &[u32],
 ) -> Result<Vec<PollAnswer>, NoMemory>
     ensures each { IfOk result (λ answers. map slot_of answers.items ≡ slots.now) }
+    ensures fit { IfOk result (λ answers. AnswersFit (P.slots pool.old me) answers.items) }
     ensures told { IfOk result (λ answers. P.exact ≡ true → answers.items ≡ map (told_answer (P.holds pool.old me)) slots.now) }
     ensures row { IfOk result (λ answers. P.slots pool.new me ≡ polled_all answers.items (P.slots pool.old me)) }
     ensures others { OnOk result (SameOthers me (P.slots pool.old) (P.slots pool.new)) }
@@ -124,6 +126,7 @@ pub(crate) fn poll_retired<P: Slots>(
     ensures desk { IfOk result (λ a. desk.new ≡ polled_desk a.items desk.old) }
     ensures row { IfOk result (λ a. P.slots pool.new desk.old.me ≡ polled_all a.items (P.slots pool.old desk.old.me)) }
     ensures each { IfOk result (λ a. map slot_of a.items ≡ desk.old.retired) }
+    ensures fit { IfOk result (λ a. AnswersFit (P.slots pool.old desk.old.me) a.items) }
     ensures told { IfOk result (λ a. P.exact ≡ true → a.items ≡ map (told_answer (P.holds pool.old desk.old.me)) desk.old.retired) }
     ensures others { OnOk result (SameOthers desk.old.me (P.slots pool.old) (P.slots pool.new)) }
     ensures holds { OnOk result (P.exact ≡ true → P.holds pool.new ≡ P.holds pool.old) }

@@ -6,7 +6,7 @@ ghost use Rattle.nc_alert.specs.declared.alert.Alert.TheVariants.{PubAnswer};
 ghost use Rattle.nc_owner.specs.Holds.{AllCarry};
 ghost use Rattle.nc_owner.specs.Line.{out_lines};
 ghost use Rattle.nc_owner.specs.Pool.{SameOthers};
-ghost use Rattle.nc_owner.specs.Poll.{slot_of, told_answer};
+ghost use Rattle.nc_owner.specs.Poll.{AnswersFit, slot_of, told_answer};
 ghost use Rattle.nc_owner.specs.Posted.{Posts, Publishes};
 ghost use Rattle.nc_owner.specs.Publish.{cleared, cleared_events, is_full, message_of, stamp};
 ghost use Rattle.nc_owner.specs.Leave.{touched};
@@ -162,6 +162,7 @@ fn clear<P: Slots>(
     ensures events { IfOk result (λ a. events.new ≡ events.old ++ cleared_events a.items name.now (at desk.old (P.slots pool.old desk.old.me) channel.old)) }
     ensures bench { IfOk result (λ a. at desk.new (P.slots pool.new desk.old.me) channel.new ≡ cleared a.items (at desk.old (P.slots pool.old desk.old.me) channel.old)) }
     ensures each { IfOk result (λ a. map slot_of a.items ≡ (touched (at desk.old (P.slots pool.old desk.old.me) channel.old)).desk.retired) }
+    ensures fit { IfOk result (λ a. AnswersFit (touched (at desk.old (P.slots pool.old desk.old.me) channel.old)).row a.items) }
     ensures told { IfOk result (λ a. P.exact ≡ true → a.items ≡ map (told_answer (P.holds pool.old desk.old.me)) (touched (at desk.old (P.slots pool.old desk.old.me) channel.old)).desk.retired) }
     ensures others { OnOk result (SameOthers desk.old.me (P.slots pool.old) (P.slots pool.new)) }
     ensures holds { OnOk result (P.exact ≡ true → P.holds pool.new ≡ P.holds pool.old) }

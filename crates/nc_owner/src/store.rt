@@ -7,10 +7,10 @@ ghost use Rattle.nc_slots.specs.Slot.{lowest_unused};
 ghost use Rattle.nc_owner.specs.Ascending.{ascending};
 ghost use Rattle.nc_owner.specs.Holds.{AllCarry};
 ghost use Rattle.nc_owner.specs.Line.{out_lines};
-ghost use Rattle.nc_owner.specs.Poll.{slot_of, told_answer};
+ghost use Rattle.nc_owner.specs.Poll.{AnswersFit, slot_of, told_answer};
 ghost use Rattle.nc_owner.specs.Pool.{SameOthers};
 ghost use Rattle.nc_owner.specs.Posted.{IsStored};
-ghost use Rattle.nc_owner.specs.Publish.{kept_backlog, kept_desk, kept_row, leaving, lowest_slot, message_of, notices, one_hold, slots_of, stamp, stored_bench, stored_events};
+ghost use Rattle.nc_owner.specs.Publish.{kept_backlog, kept_desk, kept_row, leaving, left_slots, lowest_slot, message_of, notices, one_hold, slots_of, stamp, stored_bench, stored_events};
 ghost use Rattle.nc_owner.specs.State.{at};
 
 use crate::channel::Channel;
@@ -137,6 +137,7 @@ pub(crate) fn store<P: Slots>(
     requires id { id ≡ stamp (at desk.old (P.slots pool.old desk.old.me) channel.old) }
     ensures stored { IfOk result (λ r. IsStored P.held P.exact from desk.old.me order r.1.items (at desk.old (P.slots pool.old desk.old.me) channel.old) (P.slots pool.old) (P.slots pool.new) (P.holds pool.old) (P.holds pool.new) events r.0.events.events r.0.alerts (at desk.new (P.slots pool.new desk.old.me) channel.new)) }
     ensures each { IfOk result (λ r. map slot_of r.1.items ≡ ascending (slots_of (leaving order.length (at desk.old (P.slots pool.old desk.old.me) channel.old)))) }
+    ensures fit { IfOk result (λ r. AnswersFit (left_slots order.length (at desk.old (P.slots pool.old desk.old.me) channel.old)) r.1.items) }
     ensures told { IfOk result (λ r. P.exact ≡ true → r.1.items ≡ map (told_answer (P.holds pool.old desk.old.me)) (ascending (slots_of (leaving order.length (at desk.old (P.slots pool.old desk.old.me) channel.old))))) }
 {
     let mut events = events;

@@ -7,6 +7,7 @@ pub mod Looking
 pub mod Shelf
 pub mod Opening
 pub mod Room
+pub mod Falling
 pub mod Steps
 pub mod Gone
 pub mod Events

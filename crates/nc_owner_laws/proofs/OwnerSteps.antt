@@ -404,7 +404,7 @@ module _ (me workers slots first : ℕ) (next : ℕ → ℕ) (from : ℕ) (o : O
       }
 
 pub publish_stands : PublishStands
-publish_stands me workers slots first next exact counts from o polls row h s owner p falls k =
+publish_stands me workers slots first next exact counts from o polls row h s owner p k =
     let y = publish_outcome o polls row s in
     let clear = cleared_events polls.retired o.chan (bench_of o.chan row s) in
     let post = post_events y from o polls (publish_cleared o polls row s) in
@@ -413,10 +413,10 @@ publish_stands me workers slots first next exact counts from o polls row h s own
     let me_is = is_me me workers slots first next row h s k in
     let still = clear_still me workers slots first next from o polls row h s owner k in
     assembled me workers slots first next row h s k (publish_row o polls row s) (publish_after o polls row s) (clear ++ post) alerts
-    (keeping.publish_fits exact counts o row s polls p falls k.fits)
+    (keeping.publish_fits exact counts o row s polls p k.fits)
     (all_append (IsBy me) clear post (all_append (IsBy me) (touch_events_of o.chan row s) (freed_events s.desk.me polls.retired) (touch_by me workers slots first next row h s k o.chan) (by_freed me s.desk.me me_is (free_slots polls.retired))) q.by)
     (all_append Stays clear post (all_append Stays (touch_events_of o.chan row s) (freed_events s.desk.me polls.retired) (touch_stays me workers slots first next row h s k o.chan) (telling.freed_stays s.desk.me (free_slots polls.retired))) q.stays)
-    (telling.publish_tells (new_desk me workers slots first) h exact counts from o row s polls p falls k.fits k.tells)
+    (telling.publish_tells (new_desk me workers slots first) h exact counts from o row s polls p k.fits k.tells)
     (behind (IsStamped workers) s.desk.me next clear post alerts h still q.stamped)
     (behind (Along LeavesStored) s.desk.me next clear post alerts h still q.stored)
     (hearing.publish_wakes me workers slots first h next from o row s polls k.tells k.wakes)

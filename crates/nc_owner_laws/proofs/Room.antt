@@ -165,7 +165,7 @@ pub record Ready (rest : List Entry) (len : ℕ) (polls : Polls) (b : Bench) : T
   pub retired : b.desk.retired ≡ held_slots polls.retired
   pub before : map slot_of polls.leaving ≡ slots_of (leaving len b)
   pub left : map slot_of polls.left ≡ ascending (slots_of (leaving len b))
-  pub falls : HoldsFall polls
+  pub falls : outcome len polls b ≡ stored → HoldsFall polls
 
 pub room_of : (rest : List Entry) (len : ℕ) (polls : Polls) (b : Bench) → Ready rest len polls b → outcome len polls b ≡ stored → is_some (lowest_unused (roomy len polls.left (asked polls.leaving b)).row) ≡ true
 room_of rest len polls b r is =
@@ -180,7 +180,7 @@ room_of rest len polls b r is =
     sym (times-append s (slots_in gs) (slots_in (drop n es))) ∙ ap (times s) (sym (slots_append gs (drop n es))) ∙ ap (λ l. times s (slots_in l)) (take-append-drop n es) in
     let h : times s (slots_in gs) ≤ 1 = omega (arith, whole, r.fits.apart.of_buffered s, bit_le (is_buffered (slot_at b.row s))) in h) in
     let each = λ (s : ℕ).
-    retired_le s (fold with_slot b.desk.retired gs) (slots_in gs) polls r.falls r.left (once s) (all_without-le s (free_slots polls.left) (fold with_slot b.desk.retired gs)) (times s (held_slots polls.retired))
+    retired_le s (fold with_slot b.desk.retired gs) (slots_in gs) polls (r.falls is) r.left (once s) (all_without-le s (free_slots polls.left) (fold with_slot b.desk.retired gs)) (times s (held_slots polls.retired))
     (times-with_slot s b.desk.retired gs ∙ ap (λ l. times s l + times s (slots_in gs)) r.retired) in
     let few : length bench.desk.retired ≤ length (held_slots polls.retired ++ held_slots polls.leaving) =
     fewer bench.desk.retired (held_slots polls.retired ++ held_slots polls.leaving) (λ s. omega (arith, each s, times-append s (held_slots polls.retired) (held_slots polls.leaving))) in

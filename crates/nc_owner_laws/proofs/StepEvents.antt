@@ -368,12 +368,12 @@ post_elsewhere stored rest from o polls sp d x b r e n without =
     stored_elsewhere rest from o polls.left sp d x a n (without (lowest_slot room.row) (omega (arith, unused_slot rest (lowest_slot room.row) room low (roomy_fits rest o.length polls.left a (asked_fits rest _ polls.leaving b r.before r.fits)))))
 
 pub publish_tells : PublishTells
-publish_tells first h exact told from o row s polls p falls f t =
+publish_tells first h exact told from o row s polls p f t =
     let c = o.chan in
     let b1 = touched_of c row s in
     let b = publish_cleared o polls row s in
     let y = publish_outcome o polls row s in
-    let r = cleared_ready exact told o row s polls p falls f in
+    let r = cleared_ready exact told o row s polls p f in
     let f1 = touched_fits c row s f in
     let x1 = option_map (fresh_channel s.desk.clock) (found c s) in
     let go = leavers (is_expired s.desk.clock) (bench_of c row s) in

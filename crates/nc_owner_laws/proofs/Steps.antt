@@ -1,7 +1,7 @@
 -- Each step of an owner keeps that it fits its slots.
-use Rattle.std.proofs.Common.{◌≡◌, ℕ, zero, suc, ◌+◌, Bool, true, false, cond, not, List, [], ◌∷◌, Option, Some, None, refl, sym, ap, ◌∙◌, arith, map, filter, eqb, replicate}
-use Rattle.std.specs.Prelude.{is_some, unwrap_or, ◌==◌, ◌||◌, slice_index}
-use Rattle.std.proofs.lemmas.Bool.{true≢false, eqb-true, or_parts}
+use Rattle.std.proofs.Common.{◌≡◌, ℕ, zero, suc, ◌+◌, Bool, true, false, List, [], Option, Some, None, refl, sym, ap, ◌∙◌, arith, replicate}
+use Rattle.std.specs.Prelude.{is_some, unwrap_or, ◌||◌}
+use Rattle.std.proofs.lemmas.Bool.{true≢false, or_parts}
 use Rattle.std.proofs.lemmas.List.{length-replicate}
 use Rattle.std.specs.Ordering.{nat_cmp}
 use Rattle.std.specs.Cmp.Lexicographic.{slice_cmp}
@@ -12,26 +12,25 @@ use Rattle.nc_buffer.specs.Buffer.{is_expired, is_spent}
 use Rattle.nc_slots.specs.Slot.{slot_at, is_buffered, lowest_unused}
 use Rattle.nc_slots.specs.declared.slot.Slot.{Slot}
 use Rattle.nc_slots.specs.declared.slot.Slot.TheVariants.{Unused}
-use Rattle.nc_owner.specs.declared.poll.PollAnswer.{PollAnswer}
 use Rattle.nc_owner.specs.declared.channel.Channel.{Channel}
 use Rattle.nc_owner.specs.declared.order.Order.{Order}
-use Rattle.nc_owner.specs.Ascending.{ascending}
 use Rattle.nc_owner.specs.State.{OwnerAt, Bench, entries_of, found, exists, new_channel, bench_of}
 use Rattle.nc_owner.specs.Leave.{touched, stayers}
-use Rattle.nc_owner.specs.Poll.{slot_of, is_held, held_slots, told_answer}
-use Rattle.nc_owner.specs.Publish.{Polls, PublishPolls, Outcome, late, full, stored, is_stored, outcome, asked, roomy, leaving, slots_of, lowest_slot, post_bench, publish_cleared, publish_outcome, publish_bench}
+use Rattle.nc_owner.specs.Poll.{held_slots}
+use Rattle.nc_owner.specs.Publish.{Polls, PublishPolls, Outcome, late, full, stored, is_stored, outcome, asked, roomy, leaving, lowest_slot, post_bench, publish_cleared, publish_outcome, publish_bench}
 use Rattle.nc_owner.specs.Calls.{touched_of, joined, parted}
 use Rattle.nc_owner_laws.specs.Used.{is_retired, bit, times}
 use Rattle.nc_owner_laws.specs.Kept.{slots_in}
 use Rattle.nc_owner_laws.specs.Fits.{all_entries, Fits, BenchFits}
-use Rattle.nc_owner_laws.specs.Keeping.{NewFits, TouchFits, JoinFits, PartFits, LookFits, PolledFits, ClockFits, HoldsFall, ToldHoldsFall, PublishFits, PublishFinds}
+use Rattle.nc_owner_laws.specs.Keeping.{NewFits, TouchFits, JoinFits, PartFits, LookFits, PolledFits, ClockFits, PublishFits, PublishFinds}
 use Rattle.nc_owner_laws.proofs.Used.{agrees-same}
 use Rattle.nc_owner_laws.proofs.Leaving.{let_go_fits}
 use Rattle.nc_owner_laws.proofs.Polling.{length_polled, in_polled_all, held_agree, polled_fits}
 use Rattle.nc_owner_laws.proofs.Storing.{stored_fits}
 use Rattle.nc_owner_laws.proofs.Looking.{look_fits as look_fits_bench}
 use Rattle.nc_owner_laws.proofs.Opening.{rest_of, opened_fits, put_fits, after_fits}
-use Rattle.nc_owner_laws.proofs.Room.{times-ascending, asked_fits, roomy_fits, Ready, room_of}
+use Rattle.nc_owner_laws.proofs.Room.{asked_fits, roomy_fits, Ready, room_of}
+use Rattle.nc_owner_laws.proofs.Falling.{holds_fall}
 
 unused_row : (n k : ℕ) → slot_at (replicate n (let x : Slot Message = Unused in x)) k ≡ Unused
 unused_row zero k = refl
@@ -97,47 +96,15 @@ clock_fits now row s f = record { names = f.names; slots = f.slots; apart = f.ap
 
 -- ---- a publish
 
--- of polled slots, those that are held, where the numbers of holds are told
-held_told : (counts : List ℕ) (s : ℕ) (ks : List ℕ) → times s (held_slots (map (told_answer counts) ks)) ≡ cond (slice_index counts s == 0) 0 (times s ks)
-held_told counts s [] = cond_same (slice_index counts s == 0)
-  where
-    cond_same : (b : Bool) → zero ≡ cond b zero zero
-    cond_same true = refl
-    cond_same false = refl
-held_told counts s (k ∷ ks) =
-    with_answer (not (slice_index counts k == 0)) (told_answer counts k) (filter is_held (map (told_answer counts) ks))
-    ∙ step (slice_index counts k == 0) (slice_index counts s == 0) (eqb k s) (times s (held_slots (map (told_answer counts) ks))) (times s ks) (λ e. ap (λ n. slice_index counts n == 0) (sym (eqb-true k s e))) (held_told counts s ks)
-  where
-    with_answer : (b : Bool) (a : PollAnswer) (rest : List PollAnswer) → times s (map slot_of (cond b (a ∷ rest) rest)) ≡ cond b (bit (eqb a.slot s) + times s (map slot_of rest)) (times s (map slot_of rest))
-    with_answer true a rest = refl
-    with_answer false a rest = refl
-
-    step : (b z d : Bool) (h t : ℕ) → (d ≡ true → z ≡ b) → h ≡ cond z 0 t → cond (not b) (bit d + h) h ≡ cond z 0 (bit d + t)
-    step true true d h t f e = e
-    step true false true h t f e = absurd (true≢false (sym (f refl)))
-    step true false false h t f e = omega (arith, e)
-    step false true true h t f e = absurd (true≢false (f refl))
-    step false true false h t f e = omega (arith, e)
-    step false false d h t f e = omega (arith, e)
-
-pub told_holds_fall : ToldHoldsFall
-told_holds_fall counts o row s polls p slot lt =
-    let ks = slots_of (leaving o.length (touched (bench_of o.chan row s))) in
-    let after_is : times slot (held_slots polls.left) ≡ cond (slice_index counts slot == 0) 0 (times slot (ascending ks)) =
-    ap (λ l. times slot (held_slots l)) (p.others.after_leaving.told refl) ∙ held_told counts slot (ascending ks) in
-    let before_is : times slot (held_slots polls.leaving) ≡ cond (slice_index counts slot == 0) 0 (times slot ks) =
-    ap (λ l. times slot (held_slots l)) (p.others.before.told refl) ∙ held_told counts slot ks in
-    omega (arith, lt, after_is, before_is, ap (cond (slice_index counts slot == 0) 0) (times-ascending slot ks))
-
 -- what a publish finds once the channel was touched and the retired slots were polled
-pub cleared_ready : (exact : Bool) (counts : List ℕ) (o : Order) (row : List (Slot Message)) (s : OwnerAt) (polls : Polls) → PublishPolls exact counts o row s polls → HoldsFall polls → Fits row s
+pub cleared_ready : (exact : Bool) (counts : List ℕ) (o : Order) (row : List (Slot Message)) (s : OwnerAt) (polls : Polls) → PublishPolls exact counts o row s polls → Fits row s
     → Ready (rest_of o.chan s) o.length polls (publish_cleared o polls row s)
-cleared_ready exact counts o row s polls p falls f = record {
+cleared_ready exact counts o row s polls p f = record {
   fits = polled_fits (rest_of o.chan s) polls.retired (touched_of o.chan row s) p.first.each (touched_fits o.chan row s f);
   retired = refl;
   before = p.others.before.each;
   left = p.others.after_leaving.each;
-  falls = falls;
+  falls = holds_fall exact counts o row s polls p;
 }
 
 pub some_is : (o : Option ℕ) → is_some o ≡ true → o ≡ Some (unwrap_or o 0)
@@ -145,7 +112,7 @@ some_is None e = cc
 some_is (Some k) e = refl
 
 pub publish_finds : PublishFinds
-publish_finds exact counts o row s polls p falls f is = room_of (rest_of o.chan s) o.length polls (publish_cleared o polls row s) (cleared_ready exact counts o row s polls p falls f) is
+publish_finds exact counts o row s polls p f is = room_of (rest_of o.chan s) o.length polls (publish_cleared o polls row s) (cleared_ready exact counts o row s polls p f) is
 
 posted_fits : (x : Outcome) (rest : List Entry) (o : Order) (polls : Polls) (b : Bench) → Ready rest o.length polls b → outcome o.length polls b ≡ x → BenchFits rest (post_bench x o polls b)
 posted_fits late rest o polls b r is = r.fits
@@ -163,8 +130,8 @@ posted_nothing (full usage) o polls b n e = e
 posted_nothing stored o polls b n e = absurd (true≢false n)
 
 pub publish_fits : PublishFits
-publish_fits exact counts o row s polls p falls f =
-    let r = cleared_ready exact counts o row s polls p falls f in
+publish_fits exact counts o row s polls p f =
+    let r = cleared_ready exact counts o row s polls p f in
     let x = publish_outcome o polls row s in
     after_fits o.chan (exists o.chan s || is_stored x) (publish_bench o polls row s) row s f
     (posted_fits x (rest_of o.chan s) o polls (publish_cleared o polls row s) r refl)

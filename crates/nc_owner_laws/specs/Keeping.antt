@@ -44,12 +44,12 @@ ClockFits = (now : ℕ) (row : List (Slot Message)) (s : OwnerAt) → Fits row s
 abbrev pub HoldsFall : Polls → Type 0
 HoldsFall polls = (slot : ℕ) → 0 < times slot (held_slots polls.left) → 0 < times slot (held_slots polls.leaving)
 
--- it is so where the numbers of holds are told
-abbrev pub ToldHoldsFall : Type 0
-ToldHoldsFall = (counts : List ℕ) (o : Order) (row : List (Slot Message)) (s : OwnerAt) (polls : Polls) → PublishPolls true counts o row s polls → HoldsFall polls
+-- it is so of the polls of a publish that stores its message
+abbrev pub HoldsFallLaw : Type 0
+HoldsFallLaw = (exact : Bool) (counts : List ℕ) (o : Order) (row : List (Slot Message)) (s : OwnerAt) (polls : Polls) → PublishPolls exact counts o row s polls → publish_outcome o polls row s ≡ stored → HoldsFall polls
 
 abbrev pub PublishFits : Type 0
-PublishFits = (exact : Bool) (counts : List ℕ) (o : Order) (row : List (Slot Message)) (s : OwnerAt) (polls : Polls) → PublishPolls exact counts o row s polls → HoldsFall polls → Fits row s
+PublishFits = (exact : Bool) (counts : List ℕ) (o : Order) (row : List (Slot Message)) (s : OwnerAt) (polls : Polls) → PublishPolls exact counts o row s polls → Fits row s
     → Fits (publish_row o polls row s) (publish_after o polls row s)
 
 -- the slots of a publish when room was made
@@ -58,5 +58,5 @@ roomy_row o polls row s = (roomy o.length polls.left (asked polls.leaving (publi
 
 -- a publish that is neither late nor full finds an unused slot
 abbrev pub PublishFinds : Type 0
-PublishFinds = (exact : Bool) (counts : List ℕ) (o : Order) (row : List (Slot Message)) (s : OwnerAt) (polls : Polls) → PublishPolls exact counts o row s polls → HoldsFall polls → Fits row s
+PublishFinds = (exact : Bool) (counts : List ℕ) (o : Order) (row : List (Slot Message)) (s : OwnerAt) (polls : Polls) → PublishPolls exact counts o row s polls → Fits row s
     → publish_outcome o polls row s ≡ stored → is_some (lowest_unused (roomy_row o polls row s)) ≡ true

@@ -20,7 +20,6 @@ use Rattle.nc_owner.specs.Publish.{Polls, PublishPolls, publish_events, publish_
 use Rattle.nc_owner.specs.Look.{look_events, look_alerts, look_row, look_after}
 use Rattle.nc_owner.specs.Calls.{touch_events_of, touched_row, touch_after, join_events, join_after, part_events, part_after, info_alerts, polled_events, polled_row, polled_after, with_clock}
 use Rattle.nc_owner_laws.specs.Fits.{Fits}
-use Rattle.nc_owner_laws.specs.Keeping.{HoldsFall}
 use Rattle.nc_owner_laws.specs.Told.{Tells}
 use Rattle.nc_owner_laws.specs.Filters.{new_desk}
 use Rattle.nc_owner_laws.specs.Buffered.{LeavesStored}
@@ -65,7 +64,7 @@ abbrev pub OthersStand : Type 0
 OthersStand = (me workers slots first : ℕ) (next : ℕ → ℕ) (row : List (Slot Message)) (h : List Event) (s : OwnerAt) → Stands me workers slots first row h s → StepsStand me workers slots first next row h s
 
 abbrev pub PublishStands : Type 0
-PublishStands = (me workers slots first : ℕ) (next : ℕ → ℕ) (exact : Bool) (counts : List ℕ) (from : ℕ) (o : Order) (polls : Polls) (row : List (Slot Message)) (h : List Event) (s : OwnerAt) → owner_of workers o.chan ≡ me → PublishPolls exact counts o row s polls → HoldsFall polls
+PublishStands = (me workers slots first : ℕ) (next : ℕ → ℕ) (exact : Bool) (counts : List ℕ) (from : ℕ) (o : Order) (polls : Polls) (row : List (Slot Message)) (h : List Event) (s : OwnerAt) → owner_of workers o.chan ≡ me → PublishPolls exact counts o row s polls
     → Stands me workers slots first row h s → Stands me workers slots first (publish_row o polls row s) (onto (weave s.desk.me next (publish_events from o polls row s) (publish_alerts from o polls row s)) h) (publish_after o polls row s)
 
 -- a sweep of one channel keeps that an owner stands for its history

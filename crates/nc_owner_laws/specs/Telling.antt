@@ -16,7 +16,6 @@ use Rattle.nc_owner.specs.Publish.{Polls, PublishPolls, publish_events, publish_
 use Rattle.nc_owner.specs.Look.{look_events, look_after}
 use Rattle.nc_owner.specs.Calls.{touch_events_of, touch_after, join_events, join_after, part_events, part_after, polled_events, polled_after, with_clock}
 use Rattle.nc_owner_laws.specs.Fits.{Fits}
-use Rattle.nc_owner_laws.specs.Keeping.{HoldsFall}
 use Rattle.nc_owner_laws.specs.Told.{Tells}
 
 -- the empty history tells a new owner
@@ -45,5 +44,5 @@ abbrev pub ClockTells : Type 0
 ClockTells = (first : Desk) (h : List Event) (now : ℕ) (s : OwnerAt) → Tells first h s → Tells first (Clock s.desk.me now ∷ h) (with_clock now s)
 
 abbrev pub PublishTells : Type 0
-PublishTells = (first : Desk) (h : List Event) (exact : Bool) (counts : List ℕ) (from : ℕ) (o : Order) (row : List (Slot Message)) (s : OwnerAt) (polls : Polls) → PublishPolls exact counts o row s polls → HoldsFall polls → Fits row s → Tells first h s
+PublishTells = (first : Desk) (h : List Event) (exact : Bool) (counts : List ℕ) (from : ℕ) (o : Order) (row : List (Slot Message)) (s : OwnerAt) (polls : Polls) → PublishPolls exact counts o row s polls → Fits row s → Tells first h s
     → Tells first (onto (publish_events from o polls row s) h) (publish_after o polls row s)

@@ -1,5 +1,5 @@
 //! Each step of an owner keeps that it fits its slots.
-ghost use Rattle.nc_owner_laws.specs.Keeping.{NewFits, TouchFits, JoinFits, PartFits, LookFits, PolledFits, ClockFits, ToldHoldsFall, PublishFits, PublishFinds};
+ghost use Rattle.nc_owner_laws.specs.Keeping.{NewFits, TouchFits, JoinFits, PartFits, LookFits, PolledFits, ClockFits, HoldsFallLaw, PublishFits, PublishFinds};
 
 /// A new owner fits unused slots.
 pub fn new_fits()
@@ -36,12 +36,12 @@ pub fn clock_fits()
     ensures { ClockFits }
 {}
 
-/// Where the numbers of holds are told, a leaving slot that is held once it has left was held before.
-pub fn told_holds_fall()
-    ensures { ToldHoldsFall }
+/// Where a publish stores its message, a leaving slot that is held once it has left was held before.
+pub fn holds_fall()
+    ensures { HoldsFallLaw }
 {}
 
-/// A publish keeps it, where no leaving slot becomes held while it leaves.
+/// A publish keeps it.
 pub fn publish_fits()
     ensures { PublishFits }
 {}

@@ -17,7 +17,7 @@ pub fn sweep_stands()
     ensures { SweepStands }
 {}
 
-/// A publish keeps it, where no leaving slot becomes held while it leaves.
+/// A publish keeps it.
 pub fn publish_stands()
     ensures { PublishStands }
 {}

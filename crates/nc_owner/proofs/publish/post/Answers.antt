@@ -31,6 +31,7 @@ returns-then-is_full-clause-posts g c =
     c.args.events c.in_ok-posted-2.posted.done.events.events (out_lines c.in_ok-posted-2.posted.done.alerts) c.in_ok-_asked.usage _
     (sym c.in-Some.ensures.fits) c.in_ok-_asked.ensures.usage (sym c.is_full.ensures ∙ c.if-is_full.true)
     (record { each = c.in_ok-_asked.ensures.each; told = c.in_ok-_asked.ensures.told })
+    c.in_ok-_asked.ensures.fit
     (ap (λ (r : List (Slot Message)). at c.args.desk.now r c.args.channel.now) c.in_ok-_asked.ensures.row) (λ x. ap (λ (f : ℕ → List ℕ). f me) (c.in_ok-_asked.ensures.holds x))
     c.in_ok-posted-2.ensures.kind c.in_ok-posted-2.ensures.events (ap (λ (l : List (Outgoing _)). out_lines l) c.in_ok-posted-2.ensures.alerts)
 
@@ -48,7 +49,9 @@ returns-clause-posts g c =
     c.args.events c.in_ok-done.done.events.events (out_lines c.in_ok-done.done.alerts) c.in_ok-_asked.usage _
     (sym c.in-Some.ensures.fits) c.in_ok-_asked.ensures.usage (sym c.is_full.ensures ∙ c.if-is_full.false)
     (record { each = c.in_ok-_asked.ensures.each; told = c.in_ok-_asked.ensures.told })
+    c.in_ok-_asked.ensures.fit
     (polls_again g.P.Slots.exact (g.P.Slots.holds c.args.pool.now me) (g.P.Slots.holds c.count_usage.new.pool me) _ _ (λ x. ap (λ (f : ℕ → List ℕ). f me) (c.in_ok-_asked.ensures.holds x)) (record { each = c.in_ok-done.ensures.each; told = c.in_ok-done.ensures.told }))
+    c.in_ok-done.ensures.fit
     (ap (λ (r : List (Slot Message)). at c.args.desk.now r c.args.channel.now) c.in_ok-_asked.ensures.row)
     s.taken refl s.happened s.said s.after_store (λ x. s.counts x ∙ ap (λ (f : ℕ → List ℕ). store_holds c.args.order c.in_ok-done._left.items (at c.args.desk.now (g.P.Slots.slots c.count_usage.new.pool me) c.args.channel.now) (f me)) (c.in_ok-_asked.ensures.holds x))
 

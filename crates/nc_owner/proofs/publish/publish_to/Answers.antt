@@ -23,6 +23,7 @@ returns-clause-publishes g c =
       clear_events = rw n at c.in_ok-first.ensures.events;
       clear_bench = c.in_ok-first.ensures.bench;
       clear_polls = record { each = c.in_ok-first.ensures.each; told = c.in_ok-first.ensures.told };
+      clear_fit = c.in_ok-first.ensures.fit;
       clear_holds = λ x. ap (λ (f : ℕ → List ℕ). f me) (c.in_ok-first.ensures.holds x);
       posts = (q.0, q.1 ∙ c.deref.ensures.value, q.2, q.3);
       is_stays = c.stays-stays.ensures;
