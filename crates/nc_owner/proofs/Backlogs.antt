@@ -1,11 +1,10 @@
 -- No entry is past the last id.
-use Rattle.std.proofs.Common.{◌≡◌, ◌⊎◌, ℕ, zero, suc, Bool, true, false, List, [], ◌∷◌, ◌++◌, refl, sym, ap, arith}
-use Rattle.std.specs.List.{AllByRecursion}
+use Rattle.std.proofs.Common.{◌≡◌, ℕ, zero, suc, Bool, true, false, List, [], ◌∷◌, ◌++◌, refl, arith}
 use Rattle.std.proofs.lemmas.Int.{ints}
 use Rattle.nc_types.specs.Id.{Id, IsPast, is_past}
 use Rattle.nc_journal.proofs.Ids.{IsAtMost, past_of_test, past_of_at_most, past-trans}
 use Rattle.nc_buffer.specs.declared.entry.Entry.{Entry}
-use Rattle.nc_buffer.specs.Buffer.{IsPastAll, without_first, without_oldest, with_grant}
+use Rattle.nc_buffer.specs.Buffer.{IsPastAll, without_oldest, with_grant}
 use Rattle.nc_owner.specs.Backlog.{IsBacklog}
 
 at_most_of_test : (a b : Id) → is_past a b ≡ false → IsAtMost a b

@@ -1,13 +1,12 @@
 -- Holds that alerts carry, and the message of a granted slot.
-use Rattle.std.proofs.Common.{◌≡◌, ◌<◌, ℕ, zero, suc, List, [], ◌∷◌, ◌++◌, refl, sym, ◌∙◌, ap, length, arith, Some}
-use Rattle.std.specs.Prelude.{Option, slice_set, slice_index_or}
-use Rattle.std.specs.List.{AllByRecursion}
+use Rattle.std.proofs.Common.{◌≡◌, ◌<◌, ℕ, zero, suc, List, [], ◌∷◌, ◌++◌, refl, sym, ◌∙◌, length, arith, Some}
+use Rattle.std.specs.Prelude.{Option, slice_set}
 use Rattle.nc_types.specs.Message.{Message}
 use Rattle.nc_alert.specs.declared.packet.Outgoing.{Outgoing}
 use Rattle.nc_slots.specs.Slots.{HoldAt}
 use Rattle.nc_slots.specs.declared.slot.Slot.{Slot}
 use Rattle.nc_slots.specs.declared.slot.Slot.TheVariants.{Unused, Buffered, Retired}
-use Rattle.nc_slots.specs.Slot.{slot_at, granted, filled, message_of}
+use Rattle.nc_slots.specs.Slot.{slot_at, granted, message_of}
 use Rattle.nc_owner.specs.Holds.{Carries, AllCarry}
 
 pub all_carry-push : {H : Type 0} (held : H → HoldAt) (me : ℕ) (m : Message) (os : List (Outgoing H)) (o : Outgoing H) → AllCarry held me m os → Carries held me m o → AllCarry held me m (os ++ o ∷ [])

@@ -1,7 +1,6 @@
 -- After a publish no entry of its channel has expired.
-use Rattle.std.proofs.Common.{◌≡◌, ◌+◌, ℕ, zero, suc, Bool, true, false, List, [], ◌∷◌, ◌++◌, refl, sym, ap, ◌∙◌, subst, cond, drop, filter, Some, None, arith}
+use Rattle.std.proofs.Common.{◌≡◌, ◌+◌, ℕ, zero, suc, Bool, true, false, List, [], ◌∷◌, ◌++◌, refl, sym, subst, cond, drop, Some, None, arith}
 use Rattle.std.specs.Prelude.{Option, not, nat_le, ◌==◌, ◌&&◌, if◌then◌else◌, MatchOption}
-use Rattle.std.specs.List.{AllByRecursion}
 use Rattle.std.proofs.lemmas.Bool.Decides.{nat_tests}
 use Rattle.nc_journal.specs.Stamp.{expiry}
 use Rattle.nc_buffer.specs.declared.entry.Entry.{Entry}
@@ -10,7 +9,7 @@ use Rattle.nc_owner.specs.declared.channel.Channel.{Channel}
 use Rattle.nc_owner.specs.declared.desk.Desk.{Desk}
 use Rattle.nc_owner.specs.declared.order.Order.{Order}
 use Rattle.nc_owner.specs.Leave.{stayers}
-use Rattle.nc_owner.specs.State.{Bench, OwnerAt, entries_of, found}
+use Rattle.nc_owner.specs.State.{Bench, entries_of, found}
 use Rattle.nc_owner.specs.Publish.{Polls, Outcome, late, full, stored, kept_desk, kept_entries, granted_desk, leaving_count, lowest_slot, roomy, asked, post_bench}
 use Rattle.nc_owner.specs.Rules.{NoneExpired, IsFresh}
 

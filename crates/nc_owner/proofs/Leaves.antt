@@ -1,7 +1,7 @@
 -- Entries leave a bench one by one.
-use Rattle.std.proofs.Common.{◌≡◌, ◌+◌, ◌-◌, ◌<◌, ℕ, zero, suc, Bool, true, false, List, [], ◌∷◌, ◌++◌, refl, sym, ap, ◌∙◌, subst, length, take, drop, map, filter, find, Some, None, cond, not, arith, append_assoc}
+use Rattle.std.proofs.Common.{◌≡◌, ◌-◌, ◌<◌, ℕ, zero, suc, Bool, true, false, List, [], ◌∷◌, ◌++◌, refl, sym, ap, ◌∙◌, subst, length, take, drop, map, filter, find, Some, None, cond, arith, append_assoc}
 use Rattle.std.proofs.lemmas.List.{append-nil}
-use Rattle.std.specs.Prelude.{fold, Option, slice_get}
+use Rattle.std.specs.Prelude.{fold}
 use Rattle.nc_types.specs.Message.{Message}
 use Rattle.nc_journal.specs.declared.event.Event.{Event}
 use Rattle.nc_journal.specs.declared.word.LeftCause.{LeftCause}
@@ -12,8 +12,8 @@ use Rattle.nc_slots.specs.declared.slot.Slot.{Slot}
 use Rattle.nc_owner.specs.declared.channel.Channel.{Channel}
 use Rattle.nc_owner.specs.declared.desk.Desk.{Desk}
 use Rattle.nc_owner.specs.Backlog.{BacklogAt}
-use Rattle.nc_owner.specs.State.{Bench, at, entries_of, with_entries}
-use Rattle.nc_owner.specs.Leave.{left_event, left_desk, left_row, left_by, leavers, stayers, let_go, shed}
+use Rattle.nc_owner.specs.State.{Bench, at, with_entries}
+use Rattle.nc_owner.specs.Leave.{left_event, left_desk, left_row, left_by, let_go, shed}
 
 sub_suc : (a n : ℕ) → a - suc n ≡ (a - 1) - n
 sub_suc a n = omega arith

@@ -1,6 +1,6 @@
 -- A stored message takes the lowest unused slot.
 use Rattle.std.proofs.Common.{◌≡◌, ◌+◌, ◌<◌, ℕ, zero, suc, Bool, true, false, List, [], ◌∷◌, ◌++◌, refl, sym, ap, ◌∙◌, subst, cond, map, length, Some, None, arith}
-use Rattle.std.specs.Prelude.{Option, fold, option_map, slice_set, unwrap_or, position, not, ◌==◌}
+use Rattle.std.specs.Prelude.{Option, fold, option_map, slice_set, unwrap_or, not, ◌==◌}
 use Rattle.std.specs.List.{AllByRecursion}
 use Rattle.nc_types.specs.Message.{Message}
 use Rattle.nc_journal.specs.declared.event.Event.{Event}
@@ -9,7 +9,7 @@ use Rattle.nc_journal.specs.declared.word.LeftCause.TheVariants.{Length, Expired
 use Rattle.nc_buffer.specs.Buffer.{is_expired}
 use Rattle.nc_buffer.specs.declared.entry.Entry.{Entry}
 use Rattle.nc_slots.specs.declared.slot.Slot.{Slot}
-use Rattle.nc_slots.specs.Slot.{slot_at, is_unused, retired}
+use Rattle.nc_slots.specs.Slot.{slot_at, is_unused}
 use Rattle.nc_slots.proofs.First.{first, position-first}
 use Rattle.nc_owner.specs.declared.order.Order.{Order}
 use Rattle.nc_owner.specs.declared.poll.PollAnswer.{PollAnswer}

@@ -2,7 +2,7 @@
 use Rattle.std.proofs.Common.{◌≡◌, ◌≢◌, ℕ, Bool, true, false, List, [], refl, sym, ◌∙◌, ap, arith, cond}
 use Rattle.std.specs.Prelude.{◌==◌}
 use Rattle.std.proofs.lemmas.Bool.Decides.{nat_tests}
-use Rattle.nc_owner.specs.Pool.{except, SameOthers}
+use Rattle.nc_owner.specs.Pool.{SameOthers}
 
 -- what is the same of each owner is the same
 pub all_same : {X : Type 0} → (old new : ℕ → List X) → ((o : ℕ) → new o ≡ old o) → new ≡ old

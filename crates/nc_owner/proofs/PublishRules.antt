@@ -1,8 +1,7 @@
 -- How a publish is answered.
-use Rattle.std.proofs.Common.{◌≡◌, ◌≢◌, ◌↔◌, ◌⊎◌, inl, inr, cond, ℕ, ◌+◌, ◌<◌, ◌≤◌, Bool, true, false, List, [], ◌∷◌, ◌++◌, refl, sym, ap, ◌∙◌, subst, map, length, Some, None, arith}
+use Rattle.std.proofs.Common.{◌≡◌, ◌↔◌, ◌⊎◌, inl, inr, cond, ℕ, ◌+◌, ◌<◌, ◌≤◌, Bool, true, false, List, [], ◌∷◌, ◌++◌, refl, sym, ap, ◌∙◌, subst, map, length, arith}
 use Rattle.std.proofs.lemmas.Bool.Decides.{nat_tests}
 use Rattle.std.specs.Prelude.{fold, nat_le, ◌==◌, not, if◌then◌else◌, slice_index}
-use Rattle.std.specs.List.{count_by}
 use Rattle.nc_types.specs.Id.{Id}
 use Rattle.nc_types.specs.Message.{Message}
 use Rattle.nc_types.specs.declared.info.FullLine.{FullLine}
@@ -11,12 +10,11 @@ use Rattle.nc_slots.specs.declared.slot.Slot.{Slot}
 use Rattle.nc_owner.specs.declared.channel.Channel.{Channel}
 use Rattle.nc_owner.specs.declared.member.Member.{Member}
 use Rattle.nc_owner.specs.declared.order.Order.{Order}
-use Rattle.nc_owner.specs.declared.poll.PollAnswer.{PollAnswer}
 use Rattle.nc_owner.specs.Leave.{touched}
 use Rattle.nc_owner.specs.Line.{OutLine}
-use Rattle.nc_owner.specs.Poll.{PollsOf, told_answer, is_held, held_count}
+use Rattle.nc_owner.specs.Poll.{told_answer, is_held, held_count}
 use Rattle.nc_owner.specs.State.{Bench, OwnerAt, opened, bench_of}
-use Rattle.nc_owner.specs.Publish.{Polls, Outcome, late, full, stored, outcome, outcome_by, usage_of, is_full, stamp, notices, post_alerts, stored_status, slots_of, leaving, publish_cleared, publish_outcome, publish_alerts, publish_row, PublishPolls}
+use Rattle.nc_owner.specs.Publish.{Polls, Outcome, late, full, stored, outcome_by, usage_of, is_full, stamp, notices, post_alerts, stored_status, slots_of, leaving, publish_cleared, publish_outcome, publish_alerts, publish_row, PublishPolls}
 use Rattle.nc_owner.specs.Posted.{Publishes}
 use Rattle.nc_owner.specs.Rules.{Answered, answers_of, with_status, with_usage, usage_by, held_among, IsLateExactly, IsFullExactly, TellsMembers, FreesUnheld, TakesLowest}
 use Rattle.nc_owner.proofs.Freeing.{publish_frees}

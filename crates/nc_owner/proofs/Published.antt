@@ -1,5 +1,5 @@
 -- A publish of an owner: the parts give the whole.
-use Rattle.std.proofs.Common.{◌≡◌, ℕ, List, [], ◌∷◌, ◌++◌, Bool, true, false, refl, sym, ap, ◌∙◌, subst, map}
+use Rattle.std.proofs.Common.{◌≡◌, ℕ, List, [], ◌++◌, Bool, true, sym, ap, ◌∙◌, subst}
 use Rattle.std.specs.Prelude.{◌||◌, if◌then◌else◌, Some, None}
 use Rattle.nc_types.specs.Message.{Message}
 use Rattle.nc_journal.specs.declared.event.Event.{Event}
@@ -13,11 +13,11 @@ use Rattle.nc_owner.specs.declared.poll.PollAnswer.{PollAnswer}
 use Rattle.nc_owner.specs.Holds.{AllCarry}
 use Rattle.nc_owner.specs.Leave.{touched}
 use Rattle.nc_owner.specs.Line.{OutLine}
-use Rattle.nc_owner.specs.Poll.{PollsOf, AnswersFit, told_answer}
+use Rattle.nc_owner.specs.Poll.{PollsOf, AnswersFit}
 use Rattle.nc_owner.specs.Posted.{IsPosted, Posts, Publishes}
 use Rattle.nc_owner.specs.Rules.{NoneExpired, IsFresh}
 use Rattle.nc_owner.specs.State.{Bench, OwnerAt, at, entries_of, found, opened, exists, others, put_back, bench_of}
-use Rattle.nc_owner.specs.Publish.{Polls, LeavingPolls, PublishPolls, cleared, cleared_events, is_stored, post_events, post_holds, publish_outcome, publish_bench, publish_cleared, publish_events, publish_alerts, publish_after, publish_row, publish_holds, message_of, outcome, stamp}
+use Rattle.nc_owner.specs.Publish.{LeavingPolls, cleared, cleared_events, is_stored, post_events, post_holds, publish_outcome, publish_bench, publish_cleared, message_of, outcome, stamp}
 use Rattle.nc_owner.proofs.Fresh.{stayers_fresh, publish_fresh}
 use Rattle.nc_owner.proofs.Polls.{polls_again}
 

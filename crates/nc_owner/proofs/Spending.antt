@@ -1,5 +1,5 @@
 -- Where no entry passes a test, none is taken out, and none passes it then.
-use Rattle.std.proofs.Common.{◌≡◌, ◌∙◌, Bool, List, find, Option, None, Some, sym, ap}
+use Rattle.std.proofs.Common.{◌≡◌, ◌∙◌, Bool, List, find, None, sym, ap}
 use Rattle.nc_buffer.specs.declared.entry.Entry.{Entry}
 use Rattle.nc_buffer.specs.Buffer.{without_first}
 use Rattle.nc_buffer.proofs.BufferLaws.{takes-one}

@@ -1,6 +1,6 @@
 -- A message is stored: the parts give the whole.
-use Rattle.std.proofs.Common.{◌≡◌, ℕ, Bool, true, List, [], ◌∷◌, ◌++◌, refl, sym, ap, ◌∙◌, subst, append_assoc, Some, None}
-use Rattle.std.specs.Prelude.{Option, fold}
+use Rattle.std.proofs.Common.{◌≡◌, ℕ, Bool, true, List, [], ◌∷◌, ◌++◌, sym, ap, ◌∙◌, subst, append_assoc, Some, None}
+use Rattle.std.specs.Prelude.{fold}
 use Rattle.nc_types.specs.Id.{Id}
 use Rattle.nc_types.specs.Message.{Message}
 use Rattle.nc_types.specs.declared.info.Info.{Info}
@@ -18,7 +18,7 @@ use Rattle.nc_owner.specs.Line.{OutLine, out_lines}
 use Rattle.nc_owner.specs.Pool.{except, SameOthers}
 use Rattle.nc_owner.specs.Posted.{IsStored}
 use Rattle.nc_owner.specs.State.{Bench, at}
-use Rattle.nc_owner.specs.Publish.{roomy, roomy_events, stored_events, stored_bench, notices, lowest_slot, stamp, answer, stored_status, info_of, message_of, one_hold, store_events, store_alerts, store_bench, store_holds}
+use Rattle.nc_owner.specs.Publish.{roomy, roomy_events, stored_events, stored_bench, notices, lowest_slot, stamp, answer, stored_status, info_of, message_of, one_hold}
 use Rattle.nc_owner.proofs.Carried.{all_carry-push}
 
 -- what is known once the message has its slot, with the slots and holds of owner m

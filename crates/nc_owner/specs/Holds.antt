@@ -1,5 +1,5 @@
 -- The holds that alerts carry, beside what the journal tells of them.
-use Rattle.std.specs.Prelude.{◌≡◌, ℕ, List, IfSome, Some}
+use Rattle.std.specs.Prelude.{◌≡◌, ℕ, List, IfSome}
 use Rattle.std.specs.List.{AllByRecursion}
 use Rattle.nc_types.specs.Message.{Message}
 use Rattle.nc_alert.specs.declared.alert.Grant.{Grant}

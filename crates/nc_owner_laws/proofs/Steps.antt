@@ -15,9 +15,9 @@ use Rattle.nc_slots.specs.declared.slot.Slot.TheVariants.{Unused}
 use Rattle.nc_owner.specs.declared.channel.Channel.{Channel}
 use Rattle.nc_owner.specs.declared.order.Order.{Order}
 use Rattle.nc_owner.specs.State.{OwnerAt, Bench, entries_of, found, exists, new_channel, bench_of}
-use Rattle.nc_owner.specs.Leave.{touched, stayers}
+use Rattle.nc_owner.specs.Leave.{stayers}
 use Rattle.nc_owner.specs.Poll.{held_slots}
-use Rattle.nc_owner.specs.Publish.{Polls, PublishPolls, Outcome, late, full, stored, is_stored, outcome, asked, roomy, leaving, lowest_slot, post_bench, publish_cleared, publish_outcome, publish_bench}
+use Rattle.nc_owner.specs.Publish.{Polls, PublishPolls, Outcome, late, full, stored, is_stored, outcome, asked, roomy, lowest_slot, post_bench, publish_cleared, publish_outcome, publish_bench}
 use Rattle.nc_owner.specs.Calls.{touched_of, joined, parted}
 use Rattle.nc_owner_laws.specs.Used.{is_retired, bit, times}
 use Rattle.nc_owner_laws.specs.Kept.{slots_in}

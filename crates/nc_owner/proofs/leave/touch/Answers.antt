@@ -1,13 +1,8 @@
-use Rattle.std.proofs.Common.{◌∙◌, ◌≡◌, ℕ, subst, sym, ap, arith, true, List}
-use Rattle.std.specs.List.{find}
+use Rattle.std.proofs.Common.{◌∙◌, ℕ, subst, sym, ap, arith}
 use Rattle.nc_journal.specs.declared.word.LeftCause.TheVariants.{Expired}
 use Rattle.nc_buffer.specs.Buffer.{is_expired}
-use Rattle.nc_buffer.proofs.BufferLaws.{takes-one}
 use Rattle.nc_owner.specs.declared.desk.Desk.{Desk}
-use Rattle.nc_owner.specs.Backlog.{BacklogAt}
-use Rattle.nc_owner.specs.Leave.{let_go}
 use Rattle.nc_owner.specs.Pool.{SameOthers}
-use Rattle.nc_owner.specs.State.{at}
 use Rattle.nc_owner.proofs.Leaves.{let_go-one, let_go_events-one, let_go-none, let_go_events-none}
 use Rattle.nc_owner.proofs.leave.touch.Goals as goal
 

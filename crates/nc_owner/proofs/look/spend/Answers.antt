@@ -1,4 +1,4 @@
-use Rattle.std.proofs.Common.{◌∙◌, ◌≡◌, ◌++◌, ℕ, sym, ap, arith, true, map, List}
+use Rattle.std.proofs.Common.{◌∙◌, sym, ap, arith}
 use Rattle.nc_journal.specs.declared.word.LeftCause.TheVariants.{Spent}
 use Rattle.nc_buffer.specs.Buffer.{is_spent}
 use Rattle.nc_owner.specs.declared.desk.Desk.{Desk}

@@ -1,4 +1,4 @@
-use Rattle.std.proofs.Common.{◌∙◌, ap, sym, Some}
+use Rattle.std.proofs.Common.{◌∙◌, ap}
 use Rattle.nc_slots.specs.Slot.{slot_at, message_of}
 use Rattle.nc_owner.proofs.Carried.{all_carry-push, message-granted, same_message}
 use Rattle.nc_owner.proofs.Pools.{others_same}

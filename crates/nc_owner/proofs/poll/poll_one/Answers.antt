@@ -1,7 +1,5 @@
-use Rattle.std.proofs.Common.{◌≡◌, ℕ, Bool, ◌∙◌, sym, ap}
+use Rattle.std.proofs.Common.{Bool, ◌∙◌, sym, ap}
 use Rattle.nc_slots.specs.Slots.{is_held as shows_held}
-use Rattle.nc_slots.specs.declared.slots.Polled.{Polled}
-use Rattle.nc_owner.specs.declared.poll.PollAnswer.{PollAnswer}
 use Rattle.nc_owner.proofs.Polls.{held_told, can_hold}
 use Rattle.nc_owner.proofs.Pools.{all_same, others_same}
 use Rattle.nc_owner.proofs.poll.poll_one.Goals as goal

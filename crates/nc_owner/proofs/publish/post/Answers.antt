@@ -1,11 +1,7 @@
-use Rattle.std.proofs.Common.{◌≡◌, ℕ, ◌∙◌, ap, sym, refl, List, Bool, true, false, subst, ◌∷◌, []}
-use Rattle.std.specs.Prelude.{nat_le, is_some}
-use Rattle.nc_types.specs.Id.{Id}
+use Rattle.std.proofs.Common.{ℕ, ◌∙◌, ap, sym, refl, List, true}
 use Rattle.nc_types.specs.Message.{Message}
 use Rattle.nc_alert.specs.declared.packet.Outgoing.{Outgoing}
-use Rattle.nc_journal.specs.Stamp.{next_id}
 use Rattle.nc_slots.specs.declared.slot.Slot.{Slot}
-use Rattle.nc_owner.specs.Holds.{AllCarry}
 use Rattle.nc_owner.specs.Line.{out_lines}
 use Rattle.nc_owner.specs.Pool.{except}
 use Rattle.nc_owner.specs.Publish.{store_holds}

@@ -1,4 +1,4 @@
-use Rattle.std.proofs.Common.{◌≡◌, ℕ, refl, ◌∙◌, ap, List}
+use Rattle.std.proofs.Common.{ℕ, refl, ◌∙◌, ap, List}
 use Rattle.std.specs.Prelude.{Option, Some, if◌then◌else◌}
 use Rattle.nc_owner.specs.declared.channel.Channel.{Channel}
 use Rattle.nc_owner.specs.Line.{out_lines}

@@ -1,6 +1,5 @@
-use Rattle.std.proofs.Common.{◌≡◌, ◌++◌, ◌∷◌, [], ◌∙◌, ap, refl, sym, List, arith, Some, None}
+use Rattle.std.proofs.Common.{◌∙◌, ap, refl, sym, arith}
 use Rattle.std.proofs.lemmas.Grind.{common_steps}
-use Rattle.nc_owner.specs.Line.{out_lines}
 use Rattle.nc_owner.specs.Publish.{stamp}
 use Rattle.nc_owner.specs.State.{Bench, at}
 use Rattle.nc_owner.proofs.Storing.{whole}

@@ -1,4 +1,4 @@
-use Rattle.std.proofs.Common.{◌≡◌, subst}
+use Rattle.std.proofs.Common.{subst}
 use Rattle.nc_owner.specs.Holds.{AllCarry}
 use Rattle.nc_owner.specs.Line.{out_lines}
 use Rattle.nc_owner.specs.Pool.{SameOthers}
