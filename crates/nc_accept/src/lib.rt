@@ -6,7 +6,5 @@
 
 pub mod fields;
 mod opening;
-#[cfg(test)]
-mod tests;
 
 pub use opening::{HandRefusal, Opening, judge};

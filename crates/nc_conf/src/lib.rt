@@ -12,10 +12,6 @@ mod lines;
 mod read;
 mod syntax;
 mod table;
-#[cfg(test)]
-mod tests;
-#[cfg(test)]
-mod tests_tables;
 mod value;
 
 pub use read::{ConfFault, read_config};

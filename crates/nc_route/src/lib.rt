@@ -12,8 +12,6 @@ mod query;
 mod reason;
 mod route;
 mod start;
-#[cfg(test)]
-mod tests;
 
 pub use decision::Decision;
 pub use route::rule;

@@ -2,8 +2,8 @@
 //!
 //! Most rows of the tables put something for a piece of the text S. A row of a fault marks its place by `@`, which is left out of the text;
 //! without a mark, the place is the end of the text.
-use super::*;
-use crate::tests_tables::{CONFIGS, FAULTLESS, FAULTS, S, S_READ, SETTINGS, SMALL};
+use crate::tables::{CONFIGS, FAULTLESS, FAULTS, S, S_READ, SETTINGS, SMALL};
+use nc_conf::{ConfFault, read_config};
 use nc_types::{Config, IdPart, IdText, Listen, Location, Settings};
 use std::alloc::{AllocError, Global};
 use std::test::*;

@@ -1,6 +1,6 @@
 //! Requests and their decisions, written out by hand.
-use crate::laws::{decisions_are_sound, one_decision};
-use crate::{Decision, rule};
+use nc_route::laws::{decisions_are_sound, one_decision};
+use nc_route::{Decision, rule};
 use nc_types::{
     Allow, Bytes, Config, Field, IdPart, IdText, List, Location, NoMemory, Request, Settings, Start,
 };
