@@ -7,7 +7,7 @@ use Rattle.nc_types.specs.Message.{Message}
 use Rattle.nc_types.specs.declared.info.Info.{Info}
 use Rattle.nc_journal.specs.History.{onto, Along}
 use Rattle.nc_journal.specs.Stamp.{IsStamped, floor_of}
-use Rattle.nc_journal.specs.Message.{Message as Stored_message, buffer, first_past as first_message}
+use Rattle.nc_journal.specs.Message.{Message as KeptMessage, buffer, first_past as first_message}
 use Rattle.nc_journal.specs.declared.event.Event.{Event}
 use Rattle.nc_journal.specs.declared.event.Event.TheVariants.{Stored, Left, Joined, Parted, Granted, Looked, Removed, Made}
 use Rattle.nc_journal.specs.declared.word.LeftCause.{LeftCause}
@@ -158,7 +158,7 @@ ids_found {X} id_in test (x ∷ xs) = by (test (id_in x)) (ids_found id_in test 
     by true e = refl
     by false e = e
 
-abbrev message_id : Stored_message → Id
+abbrev message_id : KeptMessage → Id
 message_id m = m.id
 
 abbrev brief_id : Brief → Id
@@ -168,11 +168,11 @@ entry_ids : (es : List Entry) → map brief_id (map brief_entry es) ≡ map id_o
 entry_ids [] = refl
 entry_ids (e ∷ es) = ap (λ (l : List Id). e.id ∷ l) (entry_ids es)
 
-message_ids : (ms : List Stored_message) → map brief_id (map brief_message ms) ≡ map message_id ms
+message_ids : (ms : List KeptMessage) → map brief_id (map brief_message ms) ≡ map message_id ms
 message_ids [] = refl
 message_ids (m ∷ ms) = ap (λ (l : List Id). m.id ∷ l) (message_ids ms)
 
-same_found : (after : Id) (es : List Entry) (ms : List Stored_message) → map brief_entry es ≡ map brief_message ms → option_map id_of (find (λ e. is_past e.id after) es) ≡ option_map message_id (find (λ m. is_past m.id after) ms)
+same_found : (after : Id) (es : List Entry) (ms : List KeptMessage) → map brief_entry es ≡ map brief_message ms → option_map id_of (find (λ e. is_past e.id after) es) ≡ option_map message_id (find (λ m. is_past m.id after) ms)
 same_found after es ms same =
     ids_found id_of (λ i. is_past i after) es
     ∙ ap (find (λ (i : Id). is_past i after)) (sym (entry_ids es) ∙ ap (map brief_id) same ∙ message_ids ms)

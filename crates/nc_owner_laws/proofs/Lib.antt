@@ -8,6 +8,7 @@ pub mod Shelf
 pub mod Opening
 pub mod Room
 pub mod Falling
+pub mod ToldFalling
 pub mod Steps
 pub mod Gone
 pub mod Events

@@ -8,7 +8,7 @@ use Rattle.nc_types.specs.Id.{Id, is_past, id_eq}
 use Rattle.nc_types.specs.Channel.{name_eq}
 use Rattle.nc_journal.specs.History.{own, onto, is_by, Along}
 use Rattle.nc_journal.specs.Stamp.{IsStamped}
-use Rattle.nc_journal.specs.Message.{Message as Stored_message, message_of, published, is_gone, buffer}
+use Rattle.nc_journal.specs.Message.{Message as KeptMessage, message_of, published, is_gone, buffer}
 use Rattle.nc_journal.specs.Sending.{HasId}
 use Rattle.nc_journal.specs.declared.event.Event.{Event}
 use Rattle.nc_journal.specs.declared.event.Event.TheVariants.{Stored, Left, Granted, Looked, Parted, Removed, Made}
@@ -120,11 +120,11 @@ left_onto w c cause [] h has s = s
 left_onto w c cause (e ∷ es) h has s = left_onto w c cause es (Left w c e.id e.slot cause ∷ h) has.1 (s, has.0)
 
 -- each message of a list is there
-has_later : (x : Stored_message) (ms : List Stored_message) (all : List Stored_message) → AllByRecursion (λ m. HasId all m.id) ms → AllByRecursion (λ m. HasId (x ∷ all) m.id) ms
+has_later : (x : KeptMessage) (ms : List KeptMessage) (all : List KeptMessage) → AllByRecursion (λ m. HasId all m.id) ms → AllByRecursion (λ m. HasId (x ∷ all) m.id) ms
 has_later x [] all a = tt
 has_later x (m ∷ ms) all a = (inr a.0, has_later x ms all a.1)
 
-has_self : (ms : List Stored_message) → AllByRecursion (λ m. HasId ms m.id) ms
+has_self : (ms : List KeptMessage) → AllByRecursion (λ m. HasId ms m.id) ms
 has_self [] = tt
 has_self (m ∷ ms) = (inl refl, has_later m ms ms (has_self ms))
 
@@ -137,10 +137,10 @@ all_unmapped f P [] a = tt
 all_unmapped f P (x ∷ xs) a = (a.0, all_unmapped f P xs a.1)
 
 -- what holds of the ids of a buffer holds of those of the entries that have the same briefs, and the other way round
-pub to_entries : (P : Id → Type 0) (es : List Entry) (ms : List Stored_message) → map brief_entry es ≡ map brief_message ms → AllByRecursion (λ m. P m.id) ms → AllByRecursion (λ e. P e.id) es
+pub to_entries : (P : Id → Type 0) (es : List Entry) (ms : List KeptMessage) → map brief_entry es ≡ map brief_message ms → AllByRecursion (λ m. P m.id) ms → AllByRecursion (λ e. P e.id) es
 to_entries P es ms same a = all_unmapped brief_entry (λ (y : Brief). P y.id) es (subst (AllByRecursion (λ (y : Brief). P y.id)) (sym same) (all_mapped brief_message (λ (y : Brief). P y.id) ms a))
 
-pub to_messages : (P : Id → Type 0) (es : List Entry) (ms : List Stored_message) → map brief_entry es ≡ map brief_message ms → AllByRecursion (λ e. P e.id) es → AllByRecursion (λ m. P m.id) ms
+pub to_messages : (P : Id → Type 0) (es : List Entry) (ms : List KeptMessage) → map brief_entry es ≡ map brief_message ms → AllByRecursion (λ e. P e.id) es → AllByRecursion (λ m. P m.id) ms
 to_messages P es ms same a = all_unmapped brief_message (λ (y : Brief). P y.id) ms (subst (AllByRecursion (λ (y : Brief). P y.id)) same (all_mapped brief_entry (λ (y : Brief). P y.id) es a))
 
 -- the entries of a channel were stored
@@ -159,17 +159,17 @@ IsIdle (Looked w q from number c after floor past) = ⊥
 IsIdle (Removed w c last cause) = ⊥
 IsIdle _ = Unit {0}
 
-fewer_case : (P : Stored_message → Type 0) (m : Stored_message) (x y : Bool) (ks ls : List Stored_message) → (AllByRecursion P ks → AllByRecursion P ls) → AllByRecursion P (cond (not y) (m ∷ ks) ks) → AllByRecursion P (cond (not (x || y)) (m ∷ ls) ls)
+fewer_case : (P : KeptMessage → Type 0) (m : KeptMessage) (x y : Bool) (ks ls : List KeptMessage) → (AllByRecursion P ks → AllByRecursion P ls) → AllByRecursion P (cond (not y) (m ∷ ks) ks) → AllByRecursion P (cond (not (x || y)) (m ∷ ls) ls)
 fewer_case P m true true ks ls f a = f a
 fewer_case P m true false ks ls f a = f a.1
 fewer_case P m false true ks ls f a = f a
 fewer_case P m false false ks ls f a = (a.0, f a.1)
 
-fewer_kept : (P : Stored_message → Type 0) (c : List ℕ) (h : List Event) (go : Stored_message → Bool) (ms : List Stored_message) → AllByRecursion P (filter (λ m. not (is_gone c m.id h)) ms) → AllByRecursion P (filter (λ m. not (go m || is_gone c m.id h)) ms)
+fewer_kept : (P : KeptMessage → Type 0) (c : List ℕ) (h : List Event) (go : KeptMessage → Bool) (ms : List KeptMessage) → AllByRecursion P (filter (λ m. not (is_gone c m.id h)) ms) → AllByRecursion P (filter (λ m. not (go m || is_gone c m.id h)) ms)
 fewer_kept P c h go [] a = tt
 fewer_kept P c h go (m ∷ ms) a = fewer_case P m (go m) (is_gone c m.id h) (filter (λ x. not (is_gone c x.id h)) ms) (filter (λ x. not (go x || is_gone c x.id h)) ms) (fewer_kept P c h go ms) a
 
-some_fewer : (o : Option Id) (ks ls : List Stored_message) → ((after : Id) → AllByRecursion (λ m. is_past m.id after ≡ false) ks → AllByRecursion (λ m. is_past m.id after ≡ false) ls)
+some_fewer : (o : Option Id) (ks ls : List KeptMessage) → ((after : Id) → AllByRecursion (λ m. is_past m.id after ≡ false) ks → AllByRecursion (λ m. is_past m.id after ≡ false) ls)
     → IfSome o (λ after. AllByRecursion (λ m. is_past m.id after ≡ false) ks) → IfSome o (λ after. AllByRecursion (λ m. is_past m.id after ≡ false) ls)
 some_fewer None ks ls f a = a
 some_fewer (Some after) ks ls f a = f after a
@@ -191,7 +191,7 @@ pub found_past : (v p u number : ℕ) (d : List ℕ) (after : Id) (floor : ℕ) 
 found_past v p u number d after floor id h k = λ w c q x. k w c q x
 
 -- a look that found none saw nothing past its id
-look_case : (b : Bool) (o : Option Id) (after : Id) (t : Wake) (ms : List Stored_message) → (b ≡ true → AllByRecursion (λ m. is_past m.id after ≡ false) ms) → (t ≡ Waiting → IfSome o (λ a. AllByRecursion (λ m. is_past m.id a ≡ false) ms))
+look_case : (b : Bool) (o : Option Id) (after : Id) (t : Wake) (ms : List KeptMessage) → (b ≡ true → AllByRecursion (λ m. is_past m.id after ≡ false) ms) → (t ≡ Waiting → IfSome o (λ a. AllByRecursion (λ m. is_past m.id a ≡ false) ms))
     → cond b Waiting t ≡ Waiting → IfSome (cond b (Some after) o) (λ a. AllByRecursion (λ m. is_past m.id a ≡ false) ms)
 look_case true o after t ms here k e = here refl
 look_case false o after t ms here k e = k e
@@ -209,10 +209,10 @@ woken_wakes id Waiting e = cc
 woken_wakes id (ByNotice other) e = cc
 woken_wakes id ByGone e = cc
 
-stored_case : (n : Bool) (id : Id) (t : Wake) (o : Option Id) (ks ls : List Stored_message) → (n ≡ false → ls ≡ ks) → (t ≡ Waiting → IfSome o (λ a. AllByRecursion (λ m. is_past m.id a ≡ false) ks)) → cond n (woken (ByNotice id) t) t ≡ Waiting
+stored_case : (n : Bool) (id : Id) (t : Wake) (o : Option Id) (ks ls : List KeptMessage) → (n ≡ false → ls ≡ ks) → (t ≡ Waiting → IfSome o (λ a. AllByRecursion (λ m. is_past m.id a ≡ false) ks)) → cond n (woken (ByNotice id) t) t ≡ Waiting
     → IfSome o (λ a. AllByRecursion (λ m. is_past m.id a ≡ false) ls)
 stored_case true id t o ks ls same k e = absurd (woken_wakes id t e)
-stored_case false id t o ks ls same k e = subst (λ (l : List Stored_message). IfSome o (λ a. AllByRecursion (λ m. is_past m.id a ≡ false) l)) (sym (same refl)) (k e)
+stored_case false id t o ks ls same k e = subst (λ (l : List KeptMessage). IfSome o (λ a. AllByRecursion (λ m. is_past m.id a ≡ false) l)) (sym (same refl)) (k e)
 
 pub stored_past : (v : ℕ) (d : List ℕ) (id : Id) (slot len exp : ℕ) (kept : Bool) (members from r : ℕ) (ct : Option (List ℕ)) (body : List ℕ) (h : List Event) → NothingPast h → NothingPast (Stored v d id slot len exp kept members from r ct body ∷ h)
 stored_past v d id slot len exp kept members from r ct body h k = λ w c q x.

@@ -48,6 +48,10 @@ HoldsFall polls = (slot : ℕ) → 0 < times slot (held_slots polls.left) → 0 
 abbrev pub HoldsFallLaw : Type 0
 HoldsFallLaw = (exact : Bool) (counts : List ℕ) (o : Order) (row : List (Slot Message)) (s : OwnerAt) (polls : Polls) → PublishPolls exact counts o row s polls → publish_outcome o polls row s ≡ stored → HoldsFall polls
 
+-- and of those of every publish where the numbers of holds are told
+abbrev pub ToldHoldsFall : Type 0
+ToldHoldsFall = (counts : List ℕ) (o : Order) (row : List (Slot Message)) (s : OwnerAt) (polls : Polls) → PublishPolls true counts o row s polls → HoldsFall polls
+
 abbrev pub PublishFits : Type 0
 PublishFits = (exact : Bool) (counts : List ℕ) (o : Order) (row : List (Slot Message)) (s : OwnerAt) (polls : Polls) → PublishPolls exact counts o row s polls → Fits row s
     → Fits (publish_row o polls row s) (publish_after o polls row s)

@@ -1,5 +1,5 @@
 //! Each step of an owner keeps that it fits its slots.
-ghost use Rattle.nc_owner_laws.specs.Keeping.{NewFits, TouchFits, JoinFits, PartFits, LookFits, PolledFits, ClockFits, HoldsFallLaw, PublishFits, PublishFinds};
+ghost use Rattle.nc_owner_laws.specs.Keeping.{NewFits, TouchFits, JoinFits, PartFits, LookFits, PolledFits, ClockFits, HoldsFallLaw, ToldHoldsFall, PublishFits, PublishFinds};
 
 /// A new owner fits unused slots.
 pub fn new_fits()
@@ -39,6 +39,11 @@ pub fn clock_fits()
 /// Where a publish stores its message, a leaving slot that is held once it has left was held before.
 pub fn holds_fall()
     ensures { HoldsFallLaw }
+{}
+
+/// Where the numbers of holds are told, it is so of every publish.
+pub fn told_holds_fall()
+    ensures { ToldHoldsFall }
 {}
 
 /// A publish keeps it.
