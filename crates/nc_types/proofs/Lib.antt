@@ -3,3 +3,6 @@ mod Decimal
 mod Pieces
 mod UnquoteLaws
 mod LaterNames
+mod DecimalLaws
+mod Owner
+mod Behind

@@ -7,13 +7,20 @@ pub record Id : Type 0 where
   pub time : ℕ
   pub tag : ℤ
 
--- up to the last second of the year 9999
+-- the last second of the year 9999
+abbrev pub last_second : ℕ
+last_second = 253402300799
+
 abbrev pub IsTime : ℕ → Type 0
-IsTime t = t ≤ 253402300799
+IsTime t = t ≤ last_second
+
+-- a number of 16 bits at most
+abbrev pub last_tag : ℕ
+last_tag = 65535
 
 -- -1, which stands for no message of that second, or a number of 16 bits
 abbrev pub IsTag : ℤ → Type 0
-IsTag g = (negsuc 0 ≤ℤ g) × (g ≤ℤ pos 65535)
+IsTag g = (negsuc 0 ≤ℤ g) × (g ≤ℤ pos last_tag)
 
 -- an id is past another: by time, then by tag
 abbrev pub IsPast : Id → Id → Type 0

@@ -1,7 +1,12 @@
--- Numbers in decimal, and bytes between quotation marks.
-use Rattle.std.specs.Prelude.{◌≡◌, ◌<◌, ◌≤◌, length, ℕ, ◌+◌, ◌/◌, ◌%◌, List, [], ◌∷◌, ◌++◌, if◌then◌else◌, ◌==◌, ◌&&◌, nat_le, nat_lt}
+-- Texts: what stands behind another, numbers in decimal, and bytes between quotation marks.
+use Rattle.std.specs.Prelude.{◌≡◌, ◌<◌, ◌≤◌, length, ℕ, ◌+◌, ◌/◌, ◌%◌, List, [], ◌∷◌, ◌++◌, if◌then◌else◌, ◌==◌, ◌&&◌, nat_le, nat_lt, ◌^◌}
 use Rattle.std.specs.List.{flat_map}
+use Rattle.std.specs.Fmt.{decimal}
 use Rattle.std.specs.Str.Parse.{AllDigits, digits_value}
+
+-- a text is an older one with more behind it, or that one itself
+abbrev pub IsBehind : List ℕ → List ℕ → Type 0
+IsBehind older text = (more : List ℕ) × (text ≡ older ++ more)
 
 -- a text is 1 to 20 decimal digits of this value, which may pass 2^64
 pub record IsDecimal (text : List ℕ) (n : ℕ) : Type 0 where
@@ -9,6 +14,18 @@ pub record IsDecimal (text : List ℕ) (n : ℕ) : Type 0 where
   pub short : length text ≤ 20
   pub digits : AllDigits 10 text
   pub value : n ≡ digits_value 10 text
+
+-- a number in decimal is read as that number
+abbrev pub DecimalIsRead : ℕ → Type 0
+DecimalIsRead n = n < 2 ^ 64 → IsDecimal (decimal n) n
+
+-- a text has no zero before its other digits
+abbrev pub HasNoZeroBefore : List ℕ → Type 0
+HasNoZeroBefore text = (rest : List ℕ) → text ≡ 48 ∷ rest → rest ≡ []
+
+-- a text without zeros before its other digits that is read as a number is that number in decimal
+abbrev pub ReadIsDecimal : List ℕ → ℕ → Type 0
+ReadIsDecimal text n = n < 2 ^ 64 → IsDecimal text n → HasNoZeroBefore text → text ≡ decimal n
 
 -- a digit of base 16, with lower-case letters
 abbrev pub hex_digit : ℕ → ℕ

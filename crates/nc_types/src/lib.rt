@@ -16,8 +16,6 @@ mod request;
 mod seen;
 mod settings;
 mod start;
-#[cfg(test)]
-mod tests;
 pub mod text;
 mod unquote;
 

@@ -2,7 +2,7 @@
 //!
 //! Most lists have a few names, and those are looked through one by one. Names behind the first few stand in a set as well.
 //! So the time to put in n names grows as n log n.
-ghost use Rattle.std.specs.Prelude.{◌≡◌, ◌++◌, ◌∷◌, [], OnOk};
+ghost use Rattle.std.specs.Prelude.{◌≡◌, ◌++◌, ◌∷◌, [], OnOk, OnErr};
 ghost use Rattle.std.specs.List.{list_any};
 ghost use Rattle.nc_types.specs.Channel.{name_eq};
 
@@ -67,9 +67,10 @@ impl SeenNames {
         is_among(name, &self.names[..few]) || self.later.contains(name)
     }
 
-    /// Puts a name behind the others. Without memory the names are only dropped.
+    /// Puts a name behind the others. Without memory the names stay as they were.
     pub fn push(&mut self, name: ChanName) -> Result<(), NoMemory>
-        ensures { OnOk result (self.new ≡ self.old ++ name ∷ []) }
+        ensures ok { OnOk result (self.new ≡ self.old ++ name ∷ []) }
+        ensures err { OnErr result (self.new ≡ self.old) }
     {
         self.names.reserve(1)?;
         if self.names.len() >= FEW {

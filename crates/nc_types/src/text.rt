@@ -1,32 +1,56 @@
 //! Numbers in decimal, and bytes between quotation marks.
 //!
 //! The journal writes both; docs/JOURNAL.md says how they read.
-ghost use Rattle.std.specs.Prelude.{◌≡◌, ◌+◌, ◌∷◌, ◌++◌, [], ◌<◌, IfOk, OnOk, IfSome, IfNone, ◌≤◌, ℕ};
+ghost use Rattle.std.specs.Prelude.{◌≡◌, ◌+◌, ◌∷◌, ◌++◌, [], ◌<◌, IfOk, OnOk, OnErr, IfSome, IfNone, ◌≤◌, ℕ, take};
 ghost use Rattle.std.specs.Fmt.{decimal};
 ghost use Rattle.std.specs.Char.{digit_value};
-ghost use Rattle.nc_types.specs.Text.{IsDecimal, hex_digit, quoted_byte, quoted};
+ghost use Rattle.nc_types.specs.Text.{IsBehind, IsDecimal, hex_digit, quoted_byte, quoted};
 
 use crate::list::{Bytes, List, NoMemory};
 pub use crate::unquote::{UnquoteFault, unquote};
 use std::alloc::Global;
 
+/// The text as it was when it had `before` bytes, where something could not be put behind it.
+fn undone(out: &mut Vec<u8>, before: usize, put: Result<(), NoMemory>) -> Result<(), NoMemory>
+    ensures given { result ≡ put }
+    ensures ok { OnOk put (out.new.items ≡ out.old.items) }
+    ensures err { OnErr put (out.new.items ≡ take before out.old.items) }
+{
+    if put.is_err() {
+        out.truncate(before);
+    }
+    put
+}
+
 fn put_digit(out: &mut Vec<u8>, digit: u8) -> Result<(), NoMemory>
     requires { digit < 10 }
-    ensures { OnOk result (out.new.items ≡ out.old.items ++ (48 + digit) ∷ []) }
+    ensures ok { OnOk result (out.new.items ≡ out.old.items ++ (48 + digit) ∷ []) }
+    ensures err { OnErr result (out.new.items ≡ out.old.items) }
 {
     out.push(b'0' + digit)?;
     Ok(())
 }
 
-/// Writes a number in decimal, without leading zeros, behind a text.
-pub fn put_decimal(out: &mut Vec<u8>, n: u64) -> Result<(), NoMemory>
-    ensures { OnOk result (out.new.items ≡ out.old.items ++ decimal n) }
+/// The digits of a number behind a text. Without memory some of them may stand there.
+fn put_digits(out: &mut Vec<u8>, n: u64) -> Result<(), NoMemory>
+    ensures ok { OnOk result (out.new.items ≡ out.old.items ++ decimal n) }
+    ensures err { OnErr result (IsBehind out.old.items out.new.items) }
 {
     if n < 10 {
         return put_digit(out, n as u8);
     }
-    put_decimal(out, n / 10)?;
+    put_digits(out, n / 10)?;
     put_digit(out, (n % 10) as u8)
+}
+
+/// Writes a number in decimal, without leading zeros, behind a text. Without memory the text stays as it was.
+pub fn put_decimal(out: &mut Vec<u8>, n: u64) -> Result<(), NoMemory>
+    ensures ok { OnOk result (out.new.items ≡ out.old.items ++ decimal n) }
+    ensures err { OnErr result (out.new.items ≡ out.old.items) }
+{
+    let before = out.len();
+    let put = put_digits(out, n);
+    undone(out, before, put)
 }
 
 /// A number in decimal, without leading zeros.
@@ -73,7 +97,8 @@ fn hex_digit(n: u8) -> u8
 }
 
 fn put_quoted_byte(out: &mut Vec<u8>, byte: u8) -> Result<(), NoMemory>
-    ensures { OnOk result (out.new.items ≡ out.old.items ++ quoted_byte byte) }
+    ensures ok { OnOk result (out.new.items ≡ out.old.items ++ quoted_byte byte) }
+    ensures err { OnErr result (out.new.items ≡ out.old.items) }
 {
     match byte {
         b'"' => out.extend_from_slice(b"\\\"")?,
@@ -90,9 +115,10 @@ fn put_quoted_byte(out: &mut Vec<u8>, byte: u8) -> Result<(), NoMemory>
     Ok(())
 }
 
-/// Writes bytes between quotation marks behind a text, with escapes for what isn't printable.
-pub fn put_quoted(out: &mut Vec<u8>, bytes: &[u8]) -> Result<(), NoMemory>
-    ensures { OnOk result (out.new.items ≡ out.old.items ++ quoted bytes.now) }
+/// Bytes between quotation marks behind a text. Without memory a part of that may stand there.
+fn put_all_quoted(out: &mut Vec<u8>, bytes: &[u8]) -> Result<(), NoMemory>
+    ensures ok { OnOk result (out.new.items ≡ out.old.items ++ quoted bytes.now) }
+    ensures err { OnErr result (IsBehind out.old.items out.new.items) }
 {
     out.push(b'"')?;
     for byte in bytes {
@@ -100,6 +126,17 @@ pub fn put_quoted(out: &mut Vec<u8>, bytes: &[u8]) -> Result<(), NoMemory>
     }
     out.push(b'"')?;
     Ok(())
+}
+
+/// Writes bytes between quotation marks behind a text, with escapes for what isn't printable.
+/// Without memory the text stays as it was.
+pub fn put_quoted(out: &mut Vec<u8>, bytes: &[u8]) -> Result<(), NoMemory>
+    ensures ok { OnOk result (out.new.items ≡ out.old.items ++ quoted bytes.now) }
+    ensures err { OnErr result (out.new.items ≡ out.old.items) }
+{
+    let before = out.len();
+    let put = put_all_quoted(out, bytes);
+    undone(out, before, put)
 }
 
 /// Bytes between quotation marks, with escapes for what isn't printable.

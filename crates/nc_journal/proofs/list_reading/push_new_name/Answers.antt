@@ -20,4 +20,4 @@ pub returns-clause-distinct : goal.returns-clause-distinct
 returns-clause-distinct c =
     distinct_put c.args.names.now c.push.new.self _
     (ap (λ n. is_among n c.args.names.now) (sym c.as_slice.ensures) ∙ sym c.has.ensures ∙ c.if-has.false)
-    c.in_ok-push.ensures
+    c.in_ok-push.ensures.ok

@@ -1,0 +1,18 @@
+-- What stands behind a text where a call stopped for want of memory.
+use Rattle.std.proofs.Common.{ℕ, List, [], ◌≡◌, ◌∙◌, sym}
+use Rattle.std.proofs.lemmas.List.{append-nil}
+use Rattle.std.specs.Prelude.{Result, Ok, Err, OnErr}
+use Rattle.nc_types.specs.Text.{IsBehind}
+
+pub on-err : {T E : Type 0} (result : Result T E) (P Q : Type 0) → (P → Q) → OnErr result P → OnErr result Q
+on-err (Ok x) P Q f h = tt
+on-err (Err e) P Q f h = f h
+
+-- nothing stands behind it
+pub stays : (older text : List ℕ) → text ≡ older → IsBehind older text
+stays older text e = ([], e ∙ sym (append-nil older))
+
+-- whatever the call gave
+pub by-itself : {T E : Type 0} (result : Result T E) (P : Type 0) → P → OnErr result P
+by-itself (Ok x) P p = tt
+by-itself (Err e) P p = p
