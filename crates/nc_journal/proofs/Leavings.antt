@@ -13,7 +13,7 @@ use Rattle.nc_journal.specs.declared.word.LeftCause.TheVariants.{Length, Expired
 use Rattle.nc_journal.specs.History.{onto}
 use Rattle.nc_journal.specs.Message.{Message, message_of, published, is_gone, buffer, IsRising}
 use Rattle.nc_journal.specs.Sending.{HasId}
-use Rattle.nc_journal.specs.Leaving.{HasMessage, IsFirst, MakesRoom, LeavesBy, LeftAt}
+use Rattle.nc_journal.specs.Leaving.{HasMessage, StandsFirst, MakesRoom, LeavesBy, Leaves, LeftAt}
 use Rattle.nc_journal.proofs.Cuts.{all-weaker}
 
 -- ids as tests
@@ -148,7 +148,7 @@ has-message-id P [] id slot there = there
 has-message-id P (m ∷ ms) id slot (inl is) = inl is.0
 has-message-id P (m ∷ ms) id slot (inr there) = inr (has-message-id P ms id slot there)
 
-pub first-id : (ms : List Message) (id : Id) (slot : ℕ) → IsFirst ms id slot → HasId ms id
+pub first-id : (ms : List Message) (id : Id) (slot : ℕ) → StandsFirst ms id slot → HasId ms id
 first-id [] id slot first = first
 first-id (m ∷ ms) id slot first = inl first.0
 
@@ -189,6 +189,9 @@ leaves-more Deleted e w c id slot newer older by = by
 leaves-more Spent e w c id slot newer older by = by
 
 -- a message that left by the rule did so whatever comes later
-pub left-more : (e : Event) (newer : List Event) (x : Event) (older : List Event) → LeftAt newer x older → LeftAt (e ∷ newer) x older
-left-more e newer (Left w c id slot cause) older at = leaves-more cause e w c id slot newer older at
-left-more e newer _ older at = tt
+pub left-more : (workers : ℕ) (e : Event) (newer : List Event) (x : Event) (older : List Event) → LeftAt workers newer x older → LeftAt workers (e ∷ newer) x older
+left-more workers e newer (Left w c id slot cause) older at = record {
+  owner = at.owner;
+  why = leaves-more cause e w c id slot newer older at.why;
+}
+left-more workers e newer _ older at = tt

@@ -6,7 +6,7 @@ use Rattle.nc_journal.specs.declared.event.Event.TheVariants.{Subscribed, Starte
 use Rattle.nc_journal.specs.declared.word.EndedCause.{EndedCause}
 use Rattle.nc_journal.specs.declared.word.EndedCause.TheVariants as causes
 use Rattle.nc_journal.specs.History.{own, is_by}
-use Rattle.nc_journal.specs.Standing.{Stage, Absent, Over, started, served, stage_of, is_subscribed, EndsBy, IsStandingRule}
+use Rattle.nc_journal.specs.Standing.{Stage, Absent, Over, started, served, stage_of, is_subscribed, EndsBy, AreOrdered}
 
 or_left : (a b : Bool) → (a || b) ≡ false → a ≡ false
 or_left true b h = h
@@ -40,7 +40,7 @@ ended-case : (k n : ℕ) (cause : EndedCause) (g : List Event) → EndsBy cause 
 ended-case k n cause g ends none true same = absurd (absent-ends cause (subst (EndsBy cause) (subst (λ m. stage_of m g ≡ Absent) (sym (eqb-true n k same)) none) ends))
 ended-case k n cause g ends none false same = none
 
-pub absent-unless : (k w : ℕ) (h : List Event) → IsStandingRule h → is_subscribed k (own w h) ≡ false → stage_of k (own w h) ≡ Absent
+pub absent-unless : (k w : ℕ) (h : List Event) → AreOrdered h → is_subscribed k (own w h) ≡ false → stage_of k (own w h) ≡ Absent
 absent-unless k w [] rule none = refl
 absent-unless k w (Subscribed v n conn list mode start timeout close ∷ h) rule none =
     (elim (w == v) as (λ b. is_subscribed k (cond b (Subscribed v n conn list mode start timeout close ∷ own w h) (own w h)) ≡ false → stage_of k (cond b (Subscribed v n conn list mode start timeout close ∷ own w h) (own w h)) ≡ Absent) [

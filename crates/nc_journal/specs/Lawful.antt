@@ -9,8 +9,8 @@ use Rattle.nc_journal.specs.Sending.{IsSentLawfully, IsStartedLawfully, IsQuietR
 -- the history of some workers is lawful
 pub record IsLawful (workers : ℕ) (h : List Event) : Type 0 where
   pub stamped : IsStamped workers h
-  pub leaving : IsLeavingRule h
+  pub leaving : IsLeavingRule workers h
   pub standing : IsStandingRule h
   pub sent : IsSentLawfully workers h
-  pub started : IsStartedLawfully h
+  pub started : IsStartedLawfully workers h
   pub quiet : IsQuietRule h

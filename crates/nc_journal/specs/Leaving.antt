@@ -1,12 +1,13 @@
 -- The leaving rule: which message leaves its buffer, when, and why.
-use Rattle.std.specs.Prelude.{◌≡◌, ◌⊎◌, ℕ, ◌-◌, ◌<◌, ◌≤◌, Bool, true, false, not, List, [], ◌∷◌, ◌++◌, length, ◌==◌, ◌&&◌, nat_le, Option}
+use Rattle.std.specs.Prelude.{◌≡◌, ◌⊎◌, ℕ, ◌+◌, ◌-◌, ◌<◌, ◌≤◌, Bool, true, false, if◌then◌else◌, not, List, [], ◌∷◌, ◌++◌, length, ◌==◌, ◌&&◌, nat_le, Option}
 use Rattle.std.specs.List.{AllByRecursion}
 use Rattle.nc_types.specs.Id.{Id}
+use Rattle.nc_types.specs.Channel.{owner_of}
 use Rattle.nc_journal.specs.History.{own, Along, AtEachCut}
 use Rattle.nc_journal.specs.Stamp.{clock_of}
 use Rattle.nc_journal.specs.Message.{Message, buffer}
 use Rattle.nc_journal.specs.declared.event.Event.{Event}
-use Rattle.nc_journal.specs.declared.event.Event.TheVariants.{Stored, Left, Looked, Edged, Joined, Parted, Freed, Removed}
+use Rattle.nc_journal.specs.declared.event.Event.TheVariants.{Stored, Left, Looked, Edged, Joined, Parted, Granted, Freed, Removed}
 use Rattle.nc_journal.specs.declared.word.LeftCause.{LeftCause}
 use Rattle.nc_journal.specs.declared.word.LeftCause.TheVariants.{Length, Expired, Deleted, Spent}
 
@@ -20,9 +21,9 @@ HasMessage P [] id slot = ⊥
 HasMessage P (m ∷ rest) id slot = ((m.id ≡ id) × (m.slot ≡ slot) × P m) ⊎ HasMessage P rest id slot
 
 -- the first of some messages has this id and slot
-abbrev pub IsFirst : List Message → Id → ℕ → Type 0
-IsFirst [] id slot = ⊥
-IsFirst (m ∷ rest) id slot = (m.id ≡ id) × (m.slot ≡ slot)
+abbrev pub StandsFirst : List Message → Id → ℕ → Type 0
+StandsFirst [] id slot = ⊥
+StandsFirst (m ∷ rest) id slot = (m.id ≡ id) × (m.slot ≡ slot)
 
 -- what may stand between a message that leaves by length and the one that it makes room for
 abbrev pub MakesWay : Event → Type 0
@@ -48,16 +49,32 @@ pub record MakesRoom (w : ℕ) (c : List ℕ) (newer older : List Event) : Type 
   pub way : AllByRecursion MakesWay (own w between)
   pub full : len - 1 < length (buffer c older)
 
--- why a message leaves: it has expired; or room is made and it is the first; the other causes come later
+-- how often a slot was granted since the last message was stored there, by the local history of its owner
+abbrev pub grants_since : ℕ → List Event → ℕ
+grants_since slot [] = 0
+grants_since slot (Granted w g s to ∷ h) = if s == slot then grants_since slot h + 1 else grants_since slot h
+grants_since slot (Stored w c id s len exp kept members from r ct body ∷ h) = if s == slot then 0 else grants_since slot h
+grants_since slot (e ∷ h) = grants_since slot h
+
+-- the most grants that a message may have while it is kept
+abbrev pub most_grants : ℕ
+most_grants = 4294967295
+
+-- why a message leaves: it has expired; room is made and it is the first; or it was granted as often as it may be; deletion comes later
 abbrev pub LeavesBy : LeftCause → ℕ → List ℕ → Id → ℕ → List Event → List Event → Type 0
 LeavesBy Expired w c id slot newer older = HasMessage (λ m. is_expired (clock_of (own w older)) m ≡ true) (buffer c older) id slot
-LeavesBy Length w c id slot newer older = IsFirst (buffer c older) id slot × MakesRoom w c newer older
+LeavesBy Length w c id slot newer older = StandsFirst (buffer c older) id slot × MakesRoom w c newer older
+LeavesBy Spent w c id slot newer older = HasMessage (λ m. grants_since m.slot (own w older) ≡ most_grants) (buffer c older) id slot
 LeavesBy Deleted w c id slot newer older = ⊥
-LeavesBy Spent w c id slot newer older = ⊥
 
-abbrev pub LeftAt : List Event → Event → List Event → Type 0
-LeftAt newer (Left w c id slot cause) older = LeavesBy cause w c id slot newer older
-LeftAt newer _ older = Unit {0}
+-- a message leaves by its channel's owner, for a cause
+pub record Leaves (workers w : ℕ) (c : List ℕ) (id : Id) (slot : ℕ) (cause : LeftCause) (newer older : List Event) : Type 0 where
+  pub owner : w ≡ owner_of workers c
+  pub why : LeavesBy cause w c id slot newer older
+
+abbrev pub LeftAt : ℕ → List Event → Event → List Event → Type 0
+LeftAt workers newer (Left w c id slot cause) older = Leaves workers w c id slot cause newer older
+LeftAt workers newer _ older = Unit {0}
 
 -- no message of a channel's buffer has expired
 abbrev pub NoneExpired : ℕ → List ℕ → List Event → Type 0
@@ -74,7 +91,7 @@ FindsAt h (Parted w c from k) = NoneExpired w c h
 FindsAt h (Removed w c last cause) = NoneExpired w c h
 FindsAt h _ = Unit {0}
 
--- the leaving rule
-pub record IsLeavingRule (h : List Event) : Type 0 where
-  pub left : AtEachCut LeftAt h
+-- the leaving rule, for some number of workers
+pub record IsLeavingRule (workers : ℕ) (h : List Event) : Type 0 where
+  pub left : AtEachCut (LeftAt workers) h
   pub finds : Along FindsAt h

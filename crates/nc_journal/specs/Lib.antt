@@ -9,6 +9,7 @@ pub mod Field
 pub mod Line
 pub mod Text
 pub mod Leaving
+pub mod Holding
 pub mod Fit
 pub mod ValueReader
 pub mod NameReader

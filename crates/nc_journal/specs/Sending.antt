@@ -58,19 +58,19 @@ SentAt workers newer _ older = Unit {0}
 abbrev pub IsSentLawfully : ℕ → List Event → Type 0
 IsSentLawfully workers h = AtEachCut (SentAt workers) h
 
--- where a subscriber may start: before every message, or at the given cursor; none starts behind the newest yet
-abbrev pub StartsAt : CursorAt → Stage → Type 0
-StartsAt cur (Starting list once Oldest) = cur ≡ record { time = 0; tags = map (λ c. negsuc 0) list }
-StartsAt cur (Starting list once (Given from)) = cur ≡ from
-StartsAt cur _ = ⊥
+-- where a subscriber starts: before every message, or at the given cursor; none starts behind the newest yet
+abbrev pub StartsFrom : (workers w k : ℕ) → CursorAt → List Event → List Event → Stage → Type 0
+StartsFrom workers w k cur newer older (Starting list once Oldest) = cur ≡ record { time = 0; tags = map (λ c. negsuc 0) list }
+StartsFrom workers w k cur newer older (Starting list once (Given from)) = cur ≡ from
+StartsFrom workers w k cur newer older _ = ⊥
 
-abbrev pub StartedAt : List Event → Event → Type 0
-StartedAt h (Started w k cur) = StartsAt cur (stage_of k (own w h))
-StartedAt h _ = Unit {0}
+abbrev pub StartedAt : ℕ → List Event → Event → List Event → Type 0
+StartedAt workers newer (Started w k cur) older = StartsFrom workers w k cur newer older (stage_of k (own w older))
+StartedAt workers newer _ older = Unit {0}
 
--- lawful started
-abbrev pub IsStartedLawfully : List Event → Type 0
-IsStartedLawfully h = Along StartedAt h
+-- lawful started, for some number of workers
+abbrev pub IsStartedLawfully : ℕ → List Event → Type 0
+IsStartedLawfully workers h = AtEachCut (StartedAt workers) h
 
 -- one that stands lacks no buffered message of its channels
 abbrev pub LacksNothing : List Event → Stage → Type 0

@@ -1,7 +1,9 @@
 -- Standing: how far each subscriber has come.
-use Rattle.std.specs.Prelude.{◌≡◌, ℕ, Bool, true, false, List, [], ◌∷◌, if◌then◌else◌, ◌==◌, ◌||◌}
+use Rattle.std.specs.Prelude.{◌≡◌, ℕ, Bool, true, false, List, [], ◌∷◌, length, if◌then◌else◌, ◌==◌, ◌||◌}
+use Rattle.nc_types.specs.Channel.{AreDistinct}
 use Rattle.nc_types.specs.Cursor.{CursorAt}
 use Rattle.nc_types.specs.declared.start.Start.{Start}
+use Rattle.nc_types.specs.declared.start.Start.TheVariants.{Given}
 use Rattle.nc_journal.specs.declared.word.ModeLine.{ModeLine}
 use Rattle.nc_journal.specs.declared.word.ModeLine.TheVariants.{Direct, LongPoll}
 use Rattle.nc_journal.specs.declared.word.EndedCause.{EndedCause}
@@ -84,7 +86,24 @@ OrderedAt h (Made w to n a) = Unit {0}
 OrderedAt h (Shut w conn cause) = Unit {0}
 OrderedAt h _ = NobodyServed h
 
--- the standing rule: each subscriber is subscribed, started and ended at most once and in this order,
--- is sent messages only while it stands, and ends directly after its one message where one ends it
-abbrev pub IsStandingRule : List Event → Type 0
-IsStandingRule h = Along OrderedAt h
+-- each subscriber is subscribed, started and ended at most once and in this order, is sent messages only while it stands,
+-- and ends directly after its one message where one ends it
+abbrev pub AreOrdered : List Event → Type 0
+AreOrdered h = Along OrderedAt h
+
+-- a given start has a tag for each channel of the list
+abbrev pub StartFits : List (List ℕ) → Start → Type 0
+StartFits list (Given from) = length from.tags ≡ length list
+StartFits list _ = Unit {0}
+
+-- what an event keeps of the way one subscribes: no channel is named twice, and the start fits the list
+abbrev pub SubscribesAt : List Event → Event → Type 0
+SubscribesAt h (Subscribed w k conn list mode start timeout close) = AreDistinct list × StartFits list start
+SubscribesAt h _ = Unit {0}
+
+-- the standing rule: subscribers are in order, subscribe as they should,
+-- and at the end nobody was sent its one message without having ended
+pub record IsStandingRule (h : List Event) : Type 0 where
+  pub ordered : AreOrdered h
+  pub subscribed : Along SubscribesAt h
+  pub ended : NobodyServed h
