@@ -1,10 +1,10 @@
 -- Tests of the items of list fields, field by field and piece by piece.
-use Rattle.std.proofs.Common.{◌≡◌, ℕ, Bool, true, false, List, [], ◌∷◌, refl, sym, ◌∙◌, ap, ◌++◌}
+use Rattle.std.proofs.Common.{◌≡◌, ℕ, Bool, true, false, List, [], ◌∷◌, refl, ◌∙◌, ap}
 use Rattle.std.specs.Prelude.{◌&&◌, ◌||◌, map, cond}
-use Rattle.std.specs.List.{list_any, filter, flat_map, slice_split}
+use Rattle.std.specs.List.{list_any, filter, flat_map}
 use Rattle.std.proofs.lemmas.List.Folds.{list_any-append}
 use Rattle.nc_types.specs.declared.request.Field.{Field}
-use Rattle.nc_accept.specs.Fields.{freed, is_comma, items_of, is_called, value_of, values, items}
+use Rattle.nc_accept.specs.Fields.{items_of, is_called, value_of, items}
 
 -- a test of the results of a function is a test of what it is given
 pub any_mapped : {A B : Type 0} (test : B → Bool) (f : A → B) (xs : List A) → list_any test (map f xs) ≡ list_any (λ x. test (f x)) xs

@@ -1,5 +1,5 @@
 -- The values of the fields of a name, part by part.
-use Rattle.std.proofs.Common.{◌≡◌, ℕ, Bool, true, false, List, [], ◌∷◌, refl, sym, ◌∙◌, ap, ◌++◌, Option, Some, None, ◌<◌, ◌+◌, take, drop, length, arith}
+use Rattle.std.proofs.Common.{◌≡◌, ℕ, true, List, [], ◌∷◌, sym, ◌∙◌, ap, ◌++◌, Option, Some, None, ◌<◌, ◌+◌, take, drop, length, arith}
 use Rattle.std.specs.Prelude.{map, cond}
 use Rattle.std.specs.List.{filter, slice_index_or}
 use Rattle.std.specs.Option.{option_to_list, is_some}

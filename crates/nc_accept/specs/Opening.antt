@@ -1,5 +1,5 @@
 -- Openings of WebSocket connections (RFC 6455, section 4.2.1).
-use Rattle.std.specs.Prelude.{◌≡◌, ℕ, Bool, true, false, List, [], ◌∷◌, length, codes, ◌==◌, ◌&&◌, Option, Some, None, Result, Ok, Err}
+use Rattle.std.specs.Prelude.{◌≡◌, ℕ, Bool, true, false, List, length, codes, ◌==◌, ◌&&◌, Option, Some, None, Result, Ok, Err}
 use Rattle.base64.specs.Engines.{standard}
 use Rattle.base64.specs.GeneralPurpose.{decode_of}
 use Rattle.base64.specs.declared.decode.DecodeError.{DecodeError}
@@ -55,9 +55,9 @@ pub record IsOpening (fields : List Field) (opening : Opening) : Type 0 where
   pub key : key_value fields ≡ Some opening.key
   pub meta : opening.meta ≡ asks_meta fields
 
--- the first condition of an opening that the fields break; want of memory says nothing of them
+-- the first condition of an opening that the fields break; memory is wanted only where they break none
 abbrev pub IsRefused : List Field → HandRefusal → Type 0
 IsRefused fields Connection = asks_upgrade fields ≡ false
 IsRefused fields Version = (asks_upgrade fields ≡ true) × (has_version fields ≡ false)
 IsRefused fields Key = (asks_upgrade fields ≡ true) × (has_version fields ≡ true) × (has_key fields ≡ false)
-IsRefused fields NoMemory = Unit {0}
+IsRefused fields NoMemory = opens fields ≡ true

@@ -1,10 +1,10 @@
 //! The opening of a WebSocket connection, as a request's fields ask for it.
-ghost use Rattle.std.specs.Prelude.{◌≡◌, IfOk, IfErr};
+ghost use Rattle.std.specs.Prelude.{◌≡◌, ◌≤◌, length, IfOk, IfErr};
+ghost use Rattle.base64.specs.Decode.{decoded_estimate};
 ghost use Rattle.nc_accept.specs.Opening.{asks_upgrade, has_version, key_value, is_key, asks_meta, IsOpening, IsRefused};
 ghost use Rattle.std.specs.Option.{option_copied};
 
 use crate::fields::{has_item, has_word, only_value};
-use base64::DecodeAllocError;
 use base64::engine::general_purpose::STANDARD;
 use nc_types::{Bytes, Field, List, NoMemory, Request};
 use std::alloc::{AllocError, Global};
@@ -52,19 +52,34 @@ fn has_version(fields: &[Field]) -> bool
     }
 }
 
-/// Whether a text is base64 of 16 bytes.
-fn is_key(alloc: Global, text: &[u8]) -> Result<bool, AllocError>
-    ensures { IfOk result (λ yes. yes ≡ is_key text.now) }
+/// How many bytes base64 of 16 bytes has.
+const KEY_LEN: usize = 24;
+
+/// Whether a text is base64 of 16 bytes, which are put at the front of some room.
+fn fills(text: &[u8], nonce: &mut [u8]) -> bool
+    requires { decoded_estimate (length text.now) ≤ length nonce.old }
+    ensures { result ≡ is_key text.now }
 {
-    match STANDARD.decode(alloc, text) {
-        Ok(nonce) => Ok(nonce.len() == 16),
-        Err(DecodeAllocError::OutOfMemory) => Err(AllocError),
-        Err(DecodeAllocError::DecodeError(_)) => Ok(false),
+    match STANDARD.decode_slice_unchecked(text, nonce) {
+        Ok(len) => len == 16,
+        Err(_) => false,
     }
+}
+
+/// Whether a text is base64 of 16 bytes.
+fn is_key(text: &[u8]) -> bool
+    ensures { result ≡ is_key text.now }
+{
+    if text.len() > KEY_LEN {
+        return false;
+    }
+    fills(text, &mut [0; 18])
 }
 
 /// The opening that a request asks for, or the first condition of RFC 6455, section 4.2.1, that it breaks:
 /// the connection, the version, the key. That a WebSocket is asked for at all is the caller's test.
+///
+/// Memory is taken for an opening alone: a request that breaks a condition is never answered by want of it.
 pub fn judge(alloc: Global, request: &Request) -> Result<Opening, HandRefusal>
     ensures opened { IfOk result (λ opening. IsOpening request.now.fields opening) }
     ensures refused { IfErr result (λ refusal. IsRefused request.now.fields refusal) }
@@ -79,7 +94,7 @@ pub fn judge(alloc: Global, request: &Request) -> Result<Opening, HandRefusal>
     let Some(key) = only_value(b"Sec-WebSocket-Key", fields) else {
         return Err(HandRefusal::Key);
     };
-    if !is_key(alloc, key)? {
+    if !is_key(key) {
         return Err(HandRefusal::Key);
     }
     Ok(Opening {

@@ -1,5 +1,4 @@
 use Rattle.std.proofs.Common.{rules, ap, ◌∙◌}
-use Rattle.std.specs.Option.{option_copied}
 use Rattle.std.specs.Prelude.{Some}
 use Rattle.nc_accept.proofs.Values.{first_at}
 use Rattle.nc_accept.proofs.fields.first_value.Goals as goal
