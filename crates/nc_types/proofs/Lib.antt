@@ -1,4 +1,4 @@
-mod Tags
+mod MovedTags
 mod Decimal
 mod Pieces
 mod UnquoteLaws

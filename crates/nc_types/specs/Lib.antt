@@ -3,6 +3,7 @@ pub mod Cursor
 pub mod Channel
 pub mod Message
 pub mod Text
+pub mod Written
 pub mod Unquote
 pub mod Settings
 pub mod Config

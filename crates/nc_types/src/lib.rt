@@ -16,6 +16,7 @@ mod request;
 mod seen;
 mod settings;
 mod start;
+pub mod tags;
 pub mod text;
 mod unquote;
 

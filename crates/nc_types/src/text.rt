@@ -11,7 +11,11 @@ pub use crate::unquote::{UnquoteFault, unquote};
 use std::alloc::Global;
 
 /// The text as it was when it had `before` bytes, where something could not be put behind it.
-fn undone(out: &mut Vec<u8>, before: usize, put: Result<(), NoMemory>) -> Result<(), NoMemory>
+pub(crate) fn undone(
+    out: &mut Vec<u8>,
+    before: usize,
+    put: Result<(), NoMemory>,
+) -> Result<(), NoMemory>
     ensures given { result ≡ put }
     ensures ok { OnOk put (out.new.items ≡ out.old.items) }
     ensures err { OnErr put (out.new.items ≡ take before out.old.items) }

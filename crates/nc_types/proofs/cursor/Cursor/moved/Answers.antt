@@ -1,6 +1,6 @@
 use Rattle.std.proofs.Common.{arith, ◌==◌, subst, List, ℤ, set, ◌∙◌, ap}
 use Rattle.nc_types.specs.Id.{Id, IsTag}
-use Rattle.nc_types.proofs.Tags.{moved-are-tags, length-moved}
+use Rattle.nc_types.proofs.MovedTags.{moved-are-tags, length-moved}
 use Rattle.nc_types.proofs.cursor.Cursor.moved.Goals as goal
 
 pub invariant_of-result : goal.invariant_of-result
