@@ -1,5 +1,5 @@
--- What a read moves, and what a write adds.
-use Rattle.std.specs.Prelude.{◌≡◌, ℕ, ◌<◌, ◌≤◌, List, [], ◌++◌, length, take, drop, Option, Some, None}
+-- What a read moves.
+use Rattle.std.specs.Prelude.{◌≡◌, ℕ, ◌<◌, ◌≤◌, List, [], length, take, drop, Option, Some, None}
 
 -- the first n of the bytes left stand at the front of the room, and are left no more; none into a room that isn't empty is the end
 pub record MovesTo (bytes : List ℕ) (new : Option (List ℕ)) (room : List ℕ) (n : ℕ) : Type 0 where
@@ -12,8 +12,3 @@ pub record MovesTo (bytes : List ℕ) (new : Option (List ℕ)) (room : List ℕ
 abbrev pub MovesFront : Option (List ℕ) → Option (List ℕ) → List ℕ → ℕ → Type 0
 MovesFront None new room n = new ≡ None
 MovesFront (Some bytes) new room n = MovesTo bytes new room n
-
--- the first n bytes of the piece stand behind those that a sink tells; one that doesn't tell goes on so
-abbrev pub AddsFront : Option (List ℕ) → Option (List ℕ) → List ℕ → ℕ → Type 0
-AddsFront None new piece n = new ≡ None
-AddsFront (Some bytes) new piece n = new ≡ Some (bytes ++ take n piece)

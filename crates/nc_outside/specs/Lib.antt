@@ -1,3 +1,5 @@
 pub mod Fault
 pub mod Flow
+pub mod Pieces
+pub mod Laws
 pub mod Memory

@@ -5,13 +5,13 @@
 #![tactic(auto)]
 
 mod calls;
+pub mod laws;
 mod mem_sink;
 mod mem_source;
 mod sink;
 mod source;
 mod sure;
-#[cfg(test)]
-mod tests;
+mod trace;
 mod unread;
 
 pub use mem_sink::MemSink;
@@ -19,3 +19,4 @@ pub use mem_source::MemSource;
 pub use sink::Sink;
 pub use source::{Failed, Source};
 pub use sure::{SureSink, SureSource};
+pub use trace::Trace;

@@ -1,16 +1,15 @@
 //! Where bytes go to.
 //!
-//! A sink may tell contracts which bytes it took; one that stands for the world outside doesn't.
-ghost use Rattle.std.specs.Prelude.{◌≡◌, ◌≤◌, ◌<◌, ◌⊎◌, ℕ, List, Option, length, IfOk, OnErr};
+//! A sink tells contracts which bytes its writes took so far.
+ghost use Rattle.std.specs.Prelude.{◌≡◌, ◌≤◌, ◌<◌, ◌⊎◌, ◌++◌, ℕ, List, take, length, IfOk, OnErr};
 ghost use Rattle.nc_outside.specs.Fault.{HasRisen};
-ghost use Rattle.nc_outside.specs.Flow.{AddsFront};
 
 use crate::source::Failed;
 
 /// Takes bytes in their order.
 pub trait Sink {
-    /// The bytes taken, where it tells.
-    ghost taken: { Self → Option (List ℕ) };
+    /// The bytes taken, in their order.
+    ghost taken: { Self → List ℕ };
 
     /// How often a call failed. A count at the last value of 64 bits counts as risen.
     ghost faults: { Self → ℕ };
@@ -23,7 +22,7 @@ pub trait Sink {
     /// It errs where the sink failed, and then takes none.
     fn write(&mut self, piece: &[u8]) -> Result<usize, Failed>
         ensures within { IfOk result (λ n. n ≤ length piece.now) }
-        ensures added { IfOk result (λ n. AddsFront (taken self.old) (taken self.new) piece.now n) }
+        ensures added { IfOk result (λ n. taken self.new ≡ taken self.old ++ take n piece.now) }
         ensures nothing { IfOk result (λ n. n ≡ 0 → 0 < length piece.now → HasRisen (refusals self.old) (refusals self.new)) }
         ensures something { IfOk result (λ n. (0 < n) ⊎ (length piece.now ≡ 0) → refusals self.new ≡ refusals self.old) }
         ensures no_fault { IfOk result (λ _. faults self.new ≡ faults self.old) }
