@@ -1,6 +1,7 @@
 -- A value or `-`, values joined by commas, two values with a text between them, and a choice by the first byte.
-use Rattle.std.specs.Prelude.{◌≡◌, ◌≤◌, ℕ, zero, suc, Bool, drop, List, [], ◌∷◌, ◌++◌, length, Option, Some, None, ◌==◌, if◌then◌else◌}
-use Rattle.std.specs.List.{flat_map, AllByRecursion}
+use Rattle.std.specs.Prelude.{◌≡◌, ◌≤◌, ℕ, zero, suc, Bool, drop, List, [], ◌∷◌, length, Option, Some, None, ◌==◌, if◌then◌else◌}
+use Rattle.std.specs.List.{AllByRecursion}
+use Rattle.nc_types.specs.Written.{joined}
 use Rattle.nc_grammar.specs.Reading.{Read, Found, go_on, map_read, with_first, first_passes}
 use Rattle.nc_grammar.specs.Label.{field_at}
 
@@ -59,14 +60,9 @@ abbrev pub or_dash : {A : Type 0} → (A → List ℕ) → Option A → List ℕ
 or_dash text None = 45 ∷ []
 or_dash text (Some a) = text a
 
--- a value's text behind a comma
-abbrev pub behind_comma : {A : Type 0} → (A → List ℕ) → A → List ℕ
-behind_comma text a = 44 ∷ text a
-
 -- the texts of values, joined by commas
 abbrev pub joined_text : {A : Type 0} → (A → List ℕ) → List A → List ℕ
-joined_text text [] = []
-joined_text text (a ∷ xs) = text a ++ flat_map (behind_comma text) xs
+joined_text text xs = joined text xs
 
 -- one value or more, which all fit
 abbrev pub SomeFit : {A : Type 0} → (A → Type 0) → List A → Type 0

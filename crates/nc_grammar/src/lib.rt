@@ -19,6 +19,3 @@ pub use laws::{
     words_are_read,
 };
 pub use reader::Reader;
-
-#[cfg(test)]
-mod tests;

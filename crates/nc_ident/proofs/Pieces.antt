@@ -1,10 +1,10 @@
 -- The tags that are read are those that a text spells.
-use Rattle.std.proofs.Common.{◌≡◌, ℕ, ℤ, pos, negsuc, zero, suc, ◌+◌, ◌<◌, ◌≤◌, Bool, true, false, cond, List, [], ◌∷◌, ◌++◌, length, map, refl, sym, ap, subst, ◌∙◌, append_assoc, arith, Result}
+use Rattle.std.proofs.Common.{◌≡◌, ℕ, ℤ, pos, negsuc, suc, ◌+◌, ◌<◌, ◌≤◌, Bool, true, false, cond, List, [], ◌∷◌, ◌++◌, length, map, refl, sym, ap, subst, ◌∙◌, append_assoc, arith, Result}
 use Rattle.std.specs.Prelude.{filter}
 use Rattle.std.specs.List.{AllByRecursion, flat_map}
 use Rattle.std.proofs.lemmas.Int.{ints}
 use Rattle.std.proofs.lemmas.List.{length-map}
-use Rattle.nc_types.specs.Id.{IsTag}
+use Rattle.nc_types.specs.Id.{IsTag, last_second}
 use Rattle.nc_types.specs.Cursor.{CursorAt, AreTags}
 use Rattle.nc_grammar.specs.declared.fault.Fault.{Fault}
 use Rattle.nc_grammar.specs.Gives.{Gives}
@@ -18,11 +18,11 @@ use Rattle.nc_grammar.proofs.Digits.{digits_exact}
 use Rattle.nc_grammar.proofs.Label.{nothing}
 use Rattle.nc_grammar.proofs.Two.{IsTwo, two_exact}
 use Rattle.nc_grammar.specs.Maybe.{two_at}
-use Rattle.nc_ident.specs.Written.{comma, joined}
+use Rattle.nc_types.specs.Written.{comma, joined}
 use Rattle.nc_ident.specs.Spelling.{SpellsTag, SpellsTime, Piece, piece_text, SpellsTags, SpellsId, AreTagsOf, IsIdOf}
 use Rattle.nc_ident.specs.Reader.{tags_at, id_of, id_at}
 use Rattle.nc_ident.proofs.Tag.{IsElement, bare, boxed}
-use Rattle.nc_ident.proofs.Tags.{IsMore, Pair, put_first, AreTagTexts, tags_stay, joined_exact}
+use Rattle.nc_ident.proofs.Tags.{IsMore, AreTagTexts, tags_stay, joined_exact}
 
 -- the tag of a piece
 abbrev pub tag_in : Piece → ℤ
@@ -156,8 +156,8 @@ id_back cursor u m = ((cursor.time, cursor.tags), refl, record { left = m.before
 pub id_exact : IsExact IsIdOf id_stays id_at
 id_exact =
     IsExact-same (Named id_of (IsTwo (58 ∷ []) IsTimeOf AreTagsOf)) IsIdOf id_stays id_at id_there id_back
-    (IsExact-named id_of (IsTwo (58 ∷ []) IsTimeOf AreTagsOf) id_stays (two_at (58 ∷ []) (digits_at 12 253402300799) tags_at)
-    (two_exact 58 [] IsTimeOf AreTagsOf is_digit tags_stay (digits_at 12 253402300799) tags_at refl (digits_exact 12 253402300799 (omega arith)) tags_exact))
+    (IsExact-named id_of (IsTwo (58 ∷ []) IsTimeOf AreTagsOf) id_stays (two_at (58 ∷ []) (digits_at 12 last_second) tags_at)
+    (two_exact 58 [] IsTimeOf AreTagsOf is_digit tags_stay (digits_at 12 last_second) tags_at refl (digits_exact 12 last_second (omega arith)) tags_exact))
 
 -- ---- whole texts
 

@@ -1,14 +1,13 @@
 -- Reading one tag is right.
-use Rattle.std.proofs.Common.{◌≡◌, ◌≢◌, ◌⊎◌, inl, inr, ℕ, ℤ, pos, negsuc, zero, suc, Bool, true, false, cond, eqb, List, [], ◌∷◌, ◌++◌, Option, Some, None, refl, sym, ap, subst, ◌∙◌, arith, drop, append_assoc}
-use Rattle.std.proofs.lemmas.Bool.{eqb-true, eqb-false, or_right, both_ways}
-use Rattle.std.specs.Prelude.{codes, ◌&&◌}
+use Rattle.std.proofs.Common.{◌≡◌, ◌≢◌, ℕ, ℤ, pos, negsuc, Bool, true, false, cond, eqb, List, [], ◌∷◌, ◌++◌, Option, Some, None, refl, sym, ap, subst, ◌∙◌, arith, drop}
+use Rattle.std.proofs.lemmas.Bool.{eqb-true, or_right}
 use Rattle.nc_grammar.specs.Reading.{Read, Found, Stuck, map_read, go_on, with_first}
 use Rattle.nc_grammar.specs.Number.{is_digit}
 use Rattle.nc_grammar.specs.Digits.{IsDigits, digits_at}
 use Rattle.nc_grammar.specs.Label.{label_at, field_at}
 use Rattle.nc_grammar.specs.Maybe.{IsMaybe, option_at, begins_with, if_first}
-use Rattle.nc_grammar.proofs.Split.{head_is, tail_is, not_nil}
-use Rattle.nc_grammar.proofs.Exact.{IsSet, IsExact, IsExact-same, IsExact-named, IsExact-read, IsSet-wider, Named}
+use Rattle.nc_grammar.proofs.Split.{head_is, not_nil}
+use Rattle.nc_grammar.proofs.Exact.{IsExact, IsExact-same, IsExact-named, IsExact-read, IsSet-wider, Named}
 use Rattle.nc_grammar.proofs.Seq.{Both, both_exact, read_both, either}
 use Rattle.nc_grammar.proofs.Digits.{digits_exact, digits_first, digits_some}
 use Rattle.nc_grammar.proofs.Maybe.{NoDash, maybe_exact}

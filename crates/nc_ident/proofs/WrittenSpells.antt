@@ -1,17 +1,16 @@
 -- What is written is a spelling of its cursor.
-use Rattle.std.proofs.Common.{◌≡◌, ℕ, ℤ, pos, negsuc, zero, suc, ◌+◌, ◌<◌, ◌≤◌, Bool, true, false, cond, eqb, List, [], ◌∷◌, ◌++◌, length, map, Option, Some, None, refl, sym, ap, subst, ◌∙◌, arith, append-nil}
+use Rattle.std.proofs.Common.{◌≡◌, ℕ, ℤ, pos, negsuc, ◌+◌, ◌<◌, ◌≤◌, true, false, cond, eqb, List, [], ◌∷◌, ◌++◌, length, map, Option, Some, None, refl, sym, ap, arith, append-nil}
 use Rattle.std.specs.Prelude.{filter, ◌==◌}
 use Rattle.std.specs.List.{AllByRecursion, flat_map}
 use Rattle.std.specs.Fmt.{decimal}
 use Rattle.std.proofs.lemmas.Int.{ints}
-use Rattle.std.proofs.lemmas.Bool.{eqb-true, eqb-false}
+use Rattle.std.proofs.lemmas.Bool.{eqb-true}
 use Rattle.std.proofs.lemmas.Fmt.{decimal_is_IsNumeral, length-decimal-le}
 use Rattle.nc_types.specs.Id.{IsTime, IsTag}
 use Rattle.nc_types.specs.Cursor.{CursorAt, AreTags}
-use Rattle.nc_grammar.specs.Digits.{IsDigits}
-use Rattle.nc_ident.specs.Written.{tag_text, comma, joined, tags_from, sent_tags, tags_text, cursor_text}
+use Rattle.nc_types.specs.Written.{tag_text, comma, joined, tags_from, sent_tags, tags_text, cursor_text}
 use Rattle.nc_ident.specs.Spelling.{SpellsTag, SpellsTime, Piece, piece_text, SpellsTags, SpellsId}
-use Rattle.nc_ident.proofs.Pieces.{tag_in, Spelled, brackets_in, brackets_cons}
+use Rattle.nc_ident.proofs.Pieces.{tag_in, Spelled, brackets_in}
 
 time_spells : (time : ℕ) → IsTime time → SpellsTime (decimal time) time
 time_spells time le =

@@ -1,5 +1,6 @@
 -- Dates of HTTP.
 use Rattle.std.specs.Prelude.{◌≡◌, ℕ, List}
+use Rattle.nc_types.specs.Id.{IsTime}
 use Rattle.httpdate.specs.declared.date.HttpDate.{HttpDate}
 use Rattle.httpdate.specs.Date.{IsDateText, date_text, unix_secs}
 
@@ -10,6 +11,10 @@ SpellsDate text time = (date : HttpDate) × IsDateText text date × (unix_secs d
 -- the text is the fixed form of the date that begins at this second
 abbrev pub IsFixedDate : List ℕ → ℕ → Type 0
 IsFixedDate text time = (date : HttpDate) × (text ≡ date_text date) × (unix_secs date ≡ time)
+
+-- a second that a text spells is a time: the years of dates have four digits
+abbrev pub SpelledIsTime : Type 0
+SpelledIsTime = (text : List ℕ) (time : ℕ) → SpellsDate text time → IsTime time
 
 -- no text spells two seconds
 abbrev pub SpellsOneSecond : Type 0

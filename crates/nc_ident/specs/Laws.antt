@@ -1,10 +1,10 @@
 -- What follows from the definitions of spellings.
-use Rattle.std.specs.Prelude.{◌≡◌, ◌≢◌, ℕ, ℤ, ◌<◌, List, length, Option}
+use Rattle.std.specs.Prelude.{◌≡◌, ℕ, ℤ, ◌<◌, List, length, Option}
 use Rattle.nc_types.specs.Id.{IsTime}
 use Rattle.nc_types.specs.Cursor.{CursorAt, AreTags}
 use Rattle.nc_grammar.specs.Whole.{IsBad}
-use Rattle.nc_ident.specs.Written.{tags_text, cursor_text}
-use Rattle.nc_ident.specs.Spelling.{SpellsTags, SpellsId, AreTagsOf, IsIdOf}
+use Rattle.nc_types.specs.Written.{tags_text, cursor_text}
+use Rattle.nc_ident.specs.Spelling.{SpellsTags, SpellsId, IsIdOf}
 
 -- what is written of tags spells them, whatever the sending place
 abbrev pub WrittenTagsSpell : Type 0

@@ -1,5 +1,4 @@
 pub mod Date
-pub mod Written
 pub mod Spelling
 pub mod Reader
 pub mod Refusal

@@ -1,14 +1,15 @@
 -- Reading tags and ids from left to right.
 use Rattle.std.specs.Prelude.{ℕ, ℤ, pos, negsuc, zero, suc, Bool, true, false, List, [], ◌∷◌, ◌++◌, length, drop, codes, ◌&&◌, if◌then◌else◌}
+use Rattle.nc_types.specs.Id.{last_second, last_tag}
 use Rattle.nc_types.specs.Cursor.{CursorAt}
-use Rattle.nc_grammar.specs.Reading.{Read, Found, go_on, map_read, with_first}
+use Rattle.nc_grammar.specs.Reading.{Read, Found, go_on, map_read}
 use Rattle.nc_grammar.specs.Digits.{digits_at}
 use Rattle.nc_grammar.specs.Label.{label_at}
 use Rattle.nc_grammar.specs.Maybe.{begins_with, two_at}
 
 -- reads a tag: `-`, or 1 to 5 digits up to 65,535
 abbrev pub tag_at : List ℕ → Read ℤ
-tag_at t = if begins_with 45 t then Found (negsuc 0) (drop 1 t) else map_read pos (digits_at 5 65535 t)
+tag_at t = if begins_with 45 t then Found (negsuc 0) (drop 1 t) else map_read pos (digits_at 5 last_tag t)
 
 -- reads a tag behind an opening bracket, and the closing one: no later tag may stand in brackets
 abbrev pub closed_tag_at : List ℕ → Read (ℤ × Bool)
@@ -38,4 +39,4 @@ id_of x = record { time = x.0; tags = x.1 }
 
 -- reads a time of 1 to 12 digits, a colon and tags
 abbrev pub id_at : List ℕ → Read CursorAt
-id_at t = map_read id_of (two_at (codes ":") (digits_at 12 253402300799) tags_at t)
+id_at t = map_read id_of (two_at (codes ":") (digits_at 12 last_second) tags_at t)

@@ -1,18 +1,19 @@
 -- Which texts spell tags and ids.
 use Rattle.std.specs.Prelude.{◌≡◌, ℕ, ℤ, pos, negsuc, ◌<◌, ◌≤◌, Bool, List, ◌++◌, length, map, filter, codes, if◌then◌else◌}
 use Rattle.std.specs.List.{AllByRecursion}
+use Rattle.nc_types.specs.Id.{last_second, last_tag}
 use Rattle.nc_types.specs.Cursor.{CursorAt}
 use Rattle.nc_grammar.specs.Digits.{IsDigits}
-use Rattle.nc_ident.specs.Written.{joined}
+use Rattle.nc_types.specs.Written.{joined}
 
 -- a tag is `-`, which stands for -1, or 1 to 5 digits of a value up to 65,535
 abbrev pub SpellsTag : List ℕ → ℤ → Type 0
-SpellsTag text (pos g) = IsDigits 5 65535 g text
+SpellsTag text (pos g) = IsDigits 5 last_tag g text
 SpellsTag text (negsuc g) = (g ≡ 0) × (text ≡ codes "-")
 
 -- a time is 1 to 12 digits of a value up to the last second of the year 9999
 abbrev pub SpellsTime : List ℕ → ℕ → Type 0
-SpellsTime text time = IsDigits 12 253402300799 time text
+SpellsTime text time = IsDigits 12 last_second time text
 
 -- a tag as it stands in a text, and whether brackets stand round it
 pub record Piece : Type 0 where

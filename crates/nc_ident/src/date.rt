@@ -20,6 +20,7 @@ pub fn spell_date(time: u64) -> [u8; 29]
 /// The second since 1970 of a date in one of the three forms of RFC 9110, or `None` where the text is no such date.
 pub fn read_date(text: &[u8]) -> Option<u64>
     ensures some { IfSome result (λ time. SpellsDate text.now time) }
+    ensures within { IfSome result (λ time. IsTime time) }
     ensures none { IfNone result ((time : ℕ) → ¬ (SpellsDate text.now time)) }
 {
     match HttpDate::parse_ascii(text) {

@@ -1,5 +1,5 @@
 //! Laws of the definitions in `specs/`, for the reader: each is proved, and none is run.
-ghost use Rattle.nc_ident.specs.Date.{SpellsOneSecond, FixedDateSpells, FixedDateIsOne};
+ghost use Rattle.nc_ident.specs.Date.{SpelledIsTime, SpellsOneSecond, FixedDateSpells, FixedDateIsOne};
 ghost use Rattle.nc_ident.specs.Laws.{WrittenTagsSpell, WrittenIdSpells, SpellsOneList, SpellsOneCursor, SpelledAreTags, OnePlace};
 
 /// What is written of tags or of a cursor is a spelling of them.
@@ -24,6 +24,11 @@ pub fn malformed_at_one_place()
 /// What a text spells are tags, one or more.
 pub fn spelled_are_tags()
     ensures { SpelledAreTags }
+{}
+
+/// A second that a text spells is a time.
+pub fn spelled_date_is_time()
+    ensures { SpelledIsTime }
 {}
 
 /// A text spells at most one second.

@@ -9,8 +9,6 @@ pub mod laws;
 mod read;
 mod refusal;
 mod spell;
-#[cfg(test)]
-mod tests;
 
 pub use date::{read_date, spell_date};
 pub use read::{read_id, read_tags};

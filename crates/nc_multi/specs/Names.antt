@@ -47,6 +47,12 @@ pub record IsTooLong (names : List (List ℕ)) (longest place size : ℕ) : Type
   pub first : IsFirst (IsLonger longest) names place name
   pub size_is : size ≡ length name
 
+-- one name or more, which each could stand in a list
+pub record CouldStand (names : List (List ℕ)) (longest : ℕ) : Type 0 where
+  pub some : 0 < length names
+  pub none_empty : NoneIs IsEmpty names
+  pub none_longer : NoneIs (IsLonger longest) names
+
 -- names that each could stand in a list, and too many of them
 pub record AreTooMany (names : List (List ℕ)) (longest most n : ℕ) : Type 0 where
   pub some : 0 < length names
@@ -55,12 +61,12 @@ pub record AreTooMany (names : List (List ℕ)) (longest most n : ℕ) : Type 0 
   pub count : n ≡ length (distinct names)
   pub more : most < n
 
--- what a refusal says of names
+-- what a refusal says of names: memory can want only where each could stand in a list
 abbrev pub IsRefused : List (List ℕ) → ℕ → ℕ → ListRefusal → Type 0
 IsRefused names longest most (refusals.Empty place) = IsEmptyAt names place
 IsRefused names longest most (refusals.TooLong place size) = IsTooLong names longest place size
 IsRefused names longest most (refusals.TooMany n) = AreTooMany names longest most n
-IsRefused names longest most refusals.NoMemory = Unit {0}
+IsRefused names longest most refusals.NoMemory = CouldStand names longest
 
 -- names and one more behind them, unless it is among them
 abbrev pub with_name : List (List ℕ) → List ℕ → List (List ℕ)

@@ -5,7 +5,5 @@
 #![tactic(auto)]
 
 mod list;
-#[cfg(test)]
-mod tests;
 
 pub use list::{ListRefusal, list_of};

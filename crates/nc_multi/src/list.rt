@@ -1,5 +1,5 @@
 //! A list from names.
-ghost use Rattle.std.specs.Prelude.{◌≡◌, ℕ, ◌<◌, ◌≤◌, ◌∷◌, [], length, List as Items, IfOk, IfErr, IfSome, IfNone, OnOk};
+ghost use Rattle.std.specs.Prelude.{◌≡◌, ℕ, ◌<◌, ◌≤◌, ◌∷◌, [], length, List as Items, IfOk, IfErr, IfSome, IfNone, OnOk, OnErr};
 ghost use Rattle.nc_multi.specs.declared.list.ListRefusal.TheVariants.{NoMemory as NoMemoryLeft};
 ghost use Rattle.nc_multi.specs.Names.{distinct, IsEmpty, IsLonger, NoneIs, IsFirst, IsListOf, IsRefused, with_name};
 
@@ -15,6 +15,7 @@ pub enum ListRefusal {
     TooLong { place: usize, length: usize },
     /// No name is empty or too long, and there are more distinct names than there may be: their number.
     TooMany { n: usize },
+    /// No name is empty or too long, and there was no memory for those that are distinct.
     NoMemory,
 }
 
@@ -54,7 +55,8 @@ fn first_longer(names: &[Bytes], longest: u32) -> Option<(usize, usize)>
 
 /// Puts a name behind the others, unless it is among them.
 fn keep(kept: &mut SeenNames, name: &Bytes) -> Result<(), NoMemory>
-    ensures { OnOk result (kept.new ≡ with_name kept.old name.now) }
+    ensures ok { OnOk result (kept.new ≡ with_name kept.old name.now) }
+    ensures err { OnErr result (kept.new ≡ kept.old) }
 {
     if kept.has(name.as_slice()) {
         return Ok(());
