@@ -1,14 +1,15 @@
 //! A line of a journal is read, and what was read is written again.
 //!
-//! Below stands `nc_journal`; `walk` takes the lines of a journal one after the other.
+//! Below stand `nc_journal` and `nc_journal_read`; `walk` takes the lines of a journal one after the other.
 ghost use Rattle.std.specs.Prelude.{◌≡◌, ◌∷◌, ◌++◌, [], IfErr, OnOk};
 ghost use Rattle.nc_grammar.specs.Whole.{IsLine};
-ghost use Rattle.nc_journal.specs.BadLine.{IsBadLine};
-ghost use Rattle.nc_journal.specs.Fit.{Fits};
+ghost use Rattle.nc_journal_read.specs.BadLine.{IsBadLine};
+ghost use Rattle.nc_journal_read.specs.Fit.{Fits};
 ghost use Rattle.nc_journal.specs.Line.{line as line_text};
 ghost use Rattle.nc_journal.specs.declared.event.Event.{Event as EventOf};
 
-use nc_journal::{BadLine, Event, event_of, line_of};
+use nc_journal::{Event, line_of};
+use nc_journal_read::{Unread, event_of};
 use nc_types::NoMemory;
 use std::alloc::Global;
 
@@ -25,7 +26,7 @@ fn put_line(alloc: Global, event: &Event, out: &mut Vec<u8>) -> Result<(), NoMem
 /// Reads a line, without its LF, and drops what was read.
 ///
 /// Bad comes exactly where no event has it, with the length of its longest prefix that begins some event's line.
-pub fn read_line(alloc: Global, line: &[u8]) -> Result<(), BadLine>
+pub fn read_line(alloc: Global, line: &[u8]) -> Result<(), Unread>
     ensures found { OnOk result ((e : EventOf) × IsLine Fits line_text e line.now) }
     ensures bad { IfErr result (λ fault. IsBadLine line.now fault) }
 {
@@ -36,7 +37,7 @@ pub fn read_line(alloc: Global, line: &[u8]) -> Result<(), BadLine>
 /// Reads a line, without its LF, and puts the line of what was read and LF behind a text: the very line that was read.
 ///
 /// Bad comes exactly where no event has it, with the length of its longest prefix that begins some event's line.
-pub fn copy_line(alloc: Global, line: &[u8], out: &mut Vec<u8>) -> Result<(), BadLine>
+pub fn copy_line(alloc: Global, line: &[u8], out: &mut Vec<u8>) -> Result<(), Unread>
     ensures copied { OnOk result (out.new.items ≡ out.old.items ++ line.now ++ 10 ∷ []) }
     ensures found { OnOk result ((e : EventOf) × IsLine Fits line_text e line.now) }
     ensures bad { IfErr result (λ fault. IsBadLine line.now fault) }
@@ -44,6 +45,6 @@ pub fn copy_line(alloc: Global, line: &[u8], out: &mut Vec<u8>) -> Result<(), Ba
     let event = event_of(alloc, line)?;
     match put_line(alloc, &event, out) {
         Ok(()) => Ok(()),
-        Err(NoMemory) => Err(BadLine::NoMemory),
+        Err(NoMemory) => Err(Unread::NoMemory),
     }
 }

@@ -6,10 +6,6 @@
 #![tactic(auto)]
 
 mod copy;
-#[cfg(test)]
-mod line_tests;
-#[cfg(test)]
-mod reading_tests;
 mod walk;
 
 use std::io::{Read, Write};

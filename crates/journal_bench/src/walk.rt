@@ -3,11 +3,11 @@
 //! Below stands `copy`; `main` reads the journal and tells how it ended.
 ghost use Rattle.std.specs.Prelude.{◌≡◌, ℕ, ◌<◌, ◌≤◌, ◌==◌, length, position, IfSome};
 ghost use Rattle.std.specs.List.{position_or_len, before_first, after_first};
-ghost use Rattle.nc_journal.specs.declared.reading.BadLine.TheVariants.{Bad, NoMemory};
+ghost use Rattle.nc_grammar.specs.declared.fault.Unread.TheVariants.{Bad, NoMemory};
 ghost use Rattle.journal_bench.specs.declared.walk.Stop.TheVariants.{Bad as StopBad, NoMemory as StopNoMemory};
 
 use crate::copy::{copy_line, read_line};
-use nc_journal::BadLine;
+use nc_journal_read::Unread;
 use std::alloc::Global;
 use std::io;
 use std::io::Write;
@@ -82,7 +82,7 @@ fn rest_after(text: &[u8]) -> &[u8]
     &text[(len + 1).min(text.len())..]
 }
 
-fn take_line(alloc: Global, work: Work, line: &[u8], out: &mut Vec<u8>) -> Result<(), BadLine> {
+fn take_line(alloc: Global, work: Work, line: &[u8], out: &mut Vec<u8>) -> Result<(), Unread> {
     match work {
         Work::Cut => Ok(()),
         Work::Read => read_line(alloc, line),
@@ -91,13 +91,13 @@ fn take_line(alloc: Global, work: Work, line: &[u8], out: &mut Vec<u8>) -> Resul
 }
 
 /// Why a journal isn't taken past a line.
-fn stop_at(line: u64, fault: BadLine) -> Stop
+fn stop_at(line: u64, fault: Unread) -> Stop
     ensures bad { (at : ℕ) → fault ≡ Bad at → result ≡ StopBad line at }
     ensures memory { fault ≡ NoMemory → result ≡ StopNoMemory }
 {
     match fault {
-        BadLine::Bad { at } => Stop::Bad { line, at },
-        BadLine::NoMemory => Stop::NoMemory,
+        Unread::Bad { place } => Stop::Bad { line, at: place },
+        Unread::NoMemory => Stop::NoMemory,
     }
 }
 

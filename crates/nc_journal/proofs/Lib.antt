@@ -5,10 +5,3 @@ pub mod Rising
 pub mod TextLaws
 pub mod Standings
 pub mod Leavings
-pub mod Values
-pub mod Numbers
-pub mod Names
-pub mod Places
-pub mod Lines
-pub mod Steps
-pub mod Ends

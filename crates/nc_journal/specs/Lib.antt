@@ -5,17 +5,7 @@ pub mod Standing
 pub mod Sending
 pub mod Lawful
 pub mod Word
-pub mod Field
 pub mod Line
 pub mod Text
 pub mod Leaving
 pub mod Holding
-pub mod Fit
-pub mod ValueReader
-pub mod NameReader
-pub mod PlaceReader
-pub mod Shape
-pub mod WordTable
-pub mod AlertTable
-pub mod EventTable
-pub mod BadLine

@@ -1,9 +1,11 @@
 -- The line of each event: its kind and its fields in their order, each behind one blank.
-use Rattle.std.specs.Prelude.{ℕ, List, ◌++◌, codes}
+use Rattle.std.specs.Prelude.{ℕ, List, ◌++◌, codes, Some, None}
 use Rattle.std.specs.Fmt.{decimal}
+use Rattle.nc_types.specs.Id.{Id}
 use Rattle.nc_types.specs.Text.{quoted}
 use Rattle.nc_journal.specs.Word.{act_word, mode_word, left_word, removed_word, ended_word, shut_word, kind_word}
-use Rattle.nc_journal.specs.Field.{truth_text, optional, list_text, numbers_text, subs_text, id_text, cursor_text, sent_text, start_text, info_text, full_text}
+use Rattle.nc_journal_field.specs.Field.{truth_text, optional, list_text, numbers_text, subs_text, start_text, info_text, full_text}
+use Rattle.nc_types.specs.Written.{id_text, cursor_text}
 use Rattle.nc_journal.specs.declared.event.Event.{Event}
 use Rattle.nc_journal.specs.declared.event.Event.TheVariants.{Clock, Opened, Got, Asked, Answered, Subscribed, Started, Joined, Parted, Raised, Stored, Left, Looked, Edged, Granted, Released, Freed, Removed, Sent, Ended, Replied, Wrote, Shut, Made, Took, Pending, Quiet}
 use Rattle.nc_journal.specs.declared.alert.AlertLine.{AlertLine}
@@ -46,6 +48,12 @@ alert_text (alerts.InfoAnswer r status info) =
     codes "infoanswer r=" ++ decimal r ++ codes " status=" ++ decimal status
     ++ codes " info=" ++ optional info_text info
 
+-- the line of a stored message up to the moment at which it expires
+abbrev pub stored_front : ℕ → List ℕ → Id → ℕ → ℕ → ℕ → List ℕ
+stored_front w c id slot len exp =
+    codes "stored w=" ++ decimal w ++ codes " c=" ++ quoted c ++ codes " id=" ++ id_text id
+    ++ codes " slot=" ++ decimal slot ++ codes " len=" ++ decimal len ++ codes " exp=" ++ decimal exp
+
 -- the line of an event, without its end
 abbrev pub line : Event → List ℕ
 line (Clock w t) = codes "clock w=" ++ decimal w ++ codes " t=" ++ decimal t
@@ -66,7 +74,7 @@ line (Subscribed w k conn list mode start timeout close) =
     ++ codes " start=" ++ start_text start ++ codes " timeout=" ++ decimal timeout
     ++ codes " close=" ++ truth_text close
 line (Started w k cur) =
-    codes "started w=" ++ decimal w ++ codes " k=" ++ decimal k ++ codes " cur=" ++ cursor_text cur
+    codes "started w=" ++ decimal w ++ codes " k=" ++ decimal k ++ codes " cur=" ++ cursor_text None cur
 line (Joined w c from k) =
     codes "joined w=" ++ decimal w ++ codes " c=" ++ quoted c ++ codes " from=" ++ decimal from
     ++ codes " k=" ++ decimal k
@@ -75,9 +83,7 @@ line (Parted w c from k) =
     ++ codes " k=" ++ decimal k
 line (Raised w t) = codes "raised w=" ++ decimal w ++ codes " t=" ++ decimal t
 line (Stored w c id slot len exp kept members from r ct body) =
-    codes "stored w=" ++ decimal w ++ codes " c=" ++ quoted c ++ codes " id=" ++ id_text id
-    ++ codes " slot=" ++ decimal slot ++ codes " len=" ++ decimal len ++ codes " exp=" ++ decimal exp
-    ++ codes " kept=" ++ truth_text kept ++ codes " members=" ++ decimal members
+    stored_front w c id slot len exp ++ codes " kept=" ++ truth_text kept ++ codes " members=" ++ decimal members
     ++ codes " from=" ++ decimal from ++ codes " r=" ++ decimal r ++ codes " ct=" ++ optional quoted ct
     ++ codes " body=" ++ quoted body
 line (Left w c id slot cause) =
@@ -103,7 +109,7 @@ line (Removed w c last cause) =
     ++ codes " cause=" ++ removed_word cause
 line (Sent w k i c id cur looks) =
     codes "sent w=" ++ decimal w ++ codes " k=" ++ decimal k ++ codes " i=" ++ decimal i
-    ++ codes " c=" ++ quoted c ++ codes " id=" ++ id_text id ++ codes " cur=" ++ sent_text i cur
+    ++ codes " c=" ++ quoted c ++ codes " id=" ++ id_text id ++ codes " cur=" ++ cursor_text (Some i) cur
     ++ codes " looks=" ++ numbers_text looks
 line (Ended w k cause) =
     codes "ended w=" ++ decimal w ++ codes " k=" ++ decimal k ++ codes " cause=" ++ ended_word cause

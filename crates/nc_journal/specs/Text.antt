@@ -1,5 +1,5 @@
 -- The text of a journal: a line for each event, ended by LF.
-use Rattle.std.specs.Prelude.{◌≡◌, ℕ, List, [], ◌∷◌, ◌++◌}
+use Rattle.std.specs.Prelude.{◌≡◌, ℕ, List, [], ◌∷◌, ◌++◌, take}
 use Rattle.std.specs.List.{flat_map}
 use Rattle.nc_journal.specs.declared.event.Event.{Event}
 use Rattle.nc_journal.specs.Line.{line}
@@ -17,6 +17,10 @@ text_of (e ∷ older) = text_of older ++ line e ++ 10 ∷ []
 -- the lines of some events, in the order in which they happened
 abbrev pub lines_text : List Event → List ℕ
 lines_text events = flat_map ended_line events
+
+-- a new text is an old one with the lines of some first events behind it, each whole
+abbrev pub HasFirstLines : List Event → List ℕ → List ℕ → Type 0
+HasFirstLines events old new = (n : ℕ) × (new ≡ old ++ lines_text (take n events))
 
 -- the text of a history on which events were put is its text and then their lines
 abbrev pub TextGrows : List Event → List Event → Type 0

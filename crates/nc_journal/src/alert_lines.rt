@@ -3,7 +3,7 @@ ghost use Rattle.std.specs.Prelude.{◌≡◌, IfOk};
 ghost use Rattle.nc_journal.specs.Line.{alert_text};
 
 use crate::alert::AlertLine;
-use crate::field::{
+use nc_journal_field::{
     put_bytes, put_id, put_name, put_number, put_optional_bytes, put_optional_full,
     put_optional_id, put_optional_info, put_optional_number, put_subs, room,
 };

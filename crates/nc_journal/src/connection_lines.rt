@@ -3,12 +3,12 @@ ghost use Rattle.std.specs.Prelude.{◌≡◌, IfOk};
 ghost use Rattle.nc_journal.specs.Line.{line};
 
 use crate::event::Event;
-use crate::field::{
+use crate::word::{Act, ShutCause};
+use crate::words::{act_word, shut_word};
+use nc_journal_field::{
     put_bytes, put_number, put_optional_info, put_optional_list, put_optional_number, put_truth,
     put_word, room,
 };
-use crate::word::{Act, ShutCause};
-use crate::words::{act_word, shut_word};
 use nc_types::{Bytes, ChanList, Info, NoMemory};
 use std::alloc::Global;
 

@@ -1,13 +1,12 @@
 //! The line of an event.
-ghost use Rattle.std.specs.Prelude.{◌≡◌, ◌++◌, ◌∷◌, [], IfOk, OnOk};
+ghost use Rattle.std.specs.Prelude.{◌≡◌, ◌++◌, ◌∷◌, [], IfOk, OnOk, OnErr};
 ghost use Rattle.nc_journal.specs.Line.{line};
-ghost use Rattle.nc_journal.specs.Text.{ended_line, lines_text};
+ghost use Rattle.nc_journal.specs.Text.{ended_line, lines_text, HasFirstLines};
 
 use crate::connection_lines::{
     answered_line, asked_line, got_line, opened_line, replied_line, shut_line, wrote_line,
 };
 use crate::event::Event;
-use crate::field::put;
 use crate::owner_lines::{
     edged_line, freed_line, granted_line, joined_line, left_line, looked_line, parted_line,
     raised_line, removed_line, stored_line,
@@ -16,6 +15,7 @@ use crate::subscriber_lines::{ended_line, sent_line, started_line, subscribed_li
 use crate::worker_lines::{
     clock_line, made_line, pending_line, quiet_line, released_line, took_line,
 };
+use nc_journal_field::put;
 use nc_types::{Bytes, List, NoMemory};
 use std::alloc::Global;
 
@@ -125,25 +125,29 @@ fn line_text(alloc: Global, event: &Event) -> Result<Vec<u8>, NoMemory>
     }
 }
 
-/// The line of an event, without its end.
+/// The line of an event, without its end. An Err is want of memory.
 pub fn line_of(alloc: Global, event: &Event) -> Result<Bytes, NoMemory>
     ensures { IfOk result (λ text. text ≡ line event.now) }
 {
     Ok(List::of(line_text(alloc, event)?))
 }
 
+/// Puts the line of an event and its LF behind a text, or nothing.
 fn put_ended_line(alloc: Global, out: &mut Vec<u8>, event: &Event) -> Result<(), NoMemory>
-    ensures { OnOk result (out.new.items ≡ out.old.items ++ ended_line event.now) }
+    ensures put { OnOk result (out.new.items ≡ out.old.items ++ ended_line event.now) }
+    ensures unchanged { OnErr result (out.new.items ≡ out.old.items) }
 {
-    put(out, &line_text(alloc, event)?)?;
-    put(out, b"\n")
+    let mut text = line_text(alloc, event)?;
+    text.push(b'\n')?;
+    put(out, &text)
 }
 
 /// Puts the lines of some events behind a text, each ended by LF, in the order of the events.
 ///
-/// Without memory the text has some of them, and maybe a last one without its end.
+/// Without memory the text has the lines of some first of them, each whole.
 pub fn put_lines(alloc: Global, out: &mut Vec<u8>, events: &[Event]) -> Result<(), NoMemory>
-    ensures { OnOk result (out.new.items ≡ out.old.items ++ lines_text events.now) }
+    ensures put { OnOk result (out.new.items ≡ out.old.items ++ lines_text events.now) }
+    ensures cut { OnErr result (HasFirstLines events.now out.old.items out.new.items) }
 {
     for event in events {
         put_ended_line(alloc, out, event)?;

@@ -1,14 +1,14 @@
 //! The lines of what a worker does to the channels and slots that it owns.
 ghost use Rattle.std.specs.Prelude.{◌≡◌, IfOk};
-ghost use Rattle.nc_journal.specs.Line.{line};
+ghost use Rattle.nc_journal.specs.Line.{line, stored_front};
 
 use crate::event::Event;
-use crate::field::{
+use crate::word::{LeftCause, RemovedCause};
+use crate::words::{left_word, removed_word};
+use nc_journal_field::{
     put_bytes, put_id, put_name, put_number, put_optional_bytes, put_optional_id, put_truth,
     put_word, room,
 };
-use crate::word::{LeftCause, RemovedCause};
-use crate::words::{left_word, removed_word};
 use nc_types::{Bytes, ChanName, MsgId, NoMemory};
 use std::alloc::Global;
 
@@ -55,6 +55,28 @@ pub(crate) fn raised_line(alloc: Global, w: u64, t: u64) -> Result<Vec<u8>, NoMe
     Ok(out)
 }
 
+/// Where a message lies and until when.
+fn stored_front(
+    alloc: Global,
+    w: u64,
+    c: &ChanName,
+    id: &MsgId,
+    slot: u64,
+    len: u64,
+    exp: u64,
+) -> Result<Vec<u8>, NoMemory>
+    ensures { IfOk result (λ text. text.items ≡ stored_front w c.now id.now slot len exp) }
+{
+    let mut out = room(alloc)?;
+    put_number(&mut out, b"stored w=", w)?;
+    put_name(&mut out, b" c=", c)?;
+    put_id(&mut out, b" id=", id)?;
+    put_number(&mut out, b" slot=", slot)?;
+    put_number(&mut out, b" len=", len)?;
+    put_number(&mut out, b" exp=", exp)?;
+    Ok(out)
+}
+
 pub(crate) fn stored_line(
     alloc: Global,
     w: u64,
@@ -72,13 +94,7 @@ pub(crate) fn stored_line(
 ) -> Result<Vec<u8>, NoMemory>
     ensures { IfOk result (λ text. text.items ≡ line (Event.Stored w c.now id.now slot len exp kept members from r ct.now body.now)) }
 {
-    let mut out = room(alloc)?;
-    put_number(&mut out, b"stored w=", w)?;
-    put_name(&mut out, b" c=", c)?;
-    put_id(&mut out, b" id=", id)?;
-    put_number(&mut out, b" slot=", slot)?;
-    put_number(&mut out, b" len=", len)?;
-    put_number(&mut out, b" exp=", exp)?;
+    let mut out = stored_front(alloc, w, c, id, slot, len, exp)?;
     put_truth(&mut out, b" kept=", kept)?;
     put_number(&mut out, b" members=", members)?;
     put_number(&mut out, b" from=", from)?;

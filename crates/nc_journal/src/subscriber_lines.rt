@@ -3,12 +3,12 @@ ghost use Rattle.std.specs.Prelude.{◌≡◌, IfOk};
 ghost use Rattle.nc_journal.specs.Line.{line};
 
 use crate::event::Event;
-use crate::field::{
-    put_cursor, put_id, put_list, put_name, put_number, put_numbers, put_optional_number,
-    put_sent_cursor, put_start, put_truth, put_word, room,
-};
 use crate::word::{EndedCause, ModeLine};
 use crate::words::{ended_word, mode_word};
+use nc_journal_field::{
+    put_cursor, put_id, put_list, put_name, put_number, put_numbers, put_optional_number,
+    put_start, put_truth, put_word, room,
+};
 use nc_types::{ChanList, ChanName, Cursor, List, MsgId, NoMemory, Start};
 use std::alloc::Global;
 
@@ -43,7 +43,7 @@ pub(crate) fn started_line(alloc: Global, w: u64, k: u64, cur: &Cursor) -> Resul
     let mut out = room(alloc)?;
     put_number(&mut out, b"started w=", w)?;
     put_number(&mut out, b" k=", k)?;
-    put_cursor(&mut out, b" cur=", cur)?;
+    put_cursor(&mut out, b" cur=", cur, None)?;
     Ok(out)
 }
 
@@ -65,7 +65,7 @@ pub(crate) fn sent_line(
     put_number(&mut out, b" i=", i)?;
     put_name(&mut out, b" c=", c)?;
     put_id(&mut out, b" id=", id)?;
-    put_sent_cursor(&mut out, b" cur=", i, cur)?;
+    put_cursor(&mut out, b" cur=", cur, Some(i))?;
     put_numbers(&mut out, b" looks=", looks.as_slice())?;
     Ok(out)
 }

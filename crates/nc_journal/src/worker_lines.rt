@@ -5,9 +5,9 @@ ghost use Rattle.nc_journal.specs.Line.{line};
 use crate::alert::AlertLine;
 use crate::alert_lines::alert_text;
 use crate::event::Event;
-use crate::field::{put, put_number, put_word, room};
 use crate::word::AlertKind;
 use crate::words::kind_word;
+use nc_journal_field::{put, put_number, put_word, room};
 use nc_types::NoMemory;
 use std::alloc::Global;
 

@@ -1,7 +1,0 @@
-use Rattle.std.proofs.Common.{◌≡◌, ◌++◌, drop}
-use Rattle.std.specs.List.{flat_map}
-use Rattle.nc_journal.specs.Field.{comma, tag_text}
-use Rattle.nc_journal.proofs.field.put_more_tags.Given as goal
-
-abbrev pub invariant-loop-tag : goal.invariant-loop-tag
-invariant-loop-tag l = l.out.items ++ flat_map (comma tag_text) (drop l.tag-index l.tags) ≡ l.fn.out.items ++ flat_map (comma tag_text) l.tags

@@ -1,8 +1,0 @@
-use Rattle.std.proofs.Common.{◌≡◌, ◌++◌, take}
-use Rattle.std.specs.List.{flat_map}
-use Rattle.nc_types.specs.Text.{quoted}
-use Rattle.nc_journal.specs.Field.{comma}
-use Rattle.nc_journal.proofs.field.put_names.Given as goal
-
-abbrev pub invariant-loop-name : goal.invariant-loop-name
-invariant-loop-name l = l.out.items ≡ l.initial.out.items ++ flat_map (comma quoted) (take l.name-index l.rest)

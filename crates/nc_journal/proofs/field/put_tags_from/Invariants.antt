@@ -1,6 +1,0 @@
-use Rattle.std.proofs.Common.{◌≡◌, ◌++◌, ◌+◌, drop}
-use Rattle.nc_journal.specs.Field.{tags_from}
-use Rattle.nc_journal.proofs.field.put_tags_from.Given as goal
-
-abbrev pub invariant-loop-j : goal.invariant-loop-j
-invariant-loop-j l = l.out.items ++ tags_from l.i (l.j + 1) (drop l.j l.tags) ≡ l.fn.out.items ++ tags_from l.i 1 l.tags
