@@ -4,7 +4,7 @@
 ghost use Rattle.std.specs.Prelude.{◌≡◌, ◌∷◌, ◌++◌, [], IfErr, OnOk};
 ghost use Rattle.nc_grammar.specs.Whole.{IsLine};
 ghost use Rattle.nc_journal_read.specs.BadLine.{IsBadLine};
-ghost use Rattle.nc_journal_read.specs.Fit.{Fits};
+ghost use Rattle.nc_journal_read.specs.Fit.{EventFits};
 ghost use Rattle.nc_journal.specs.Line.{line as line_text};
 ghost use Rattle.nc_journal.specs.declared.event.Event.{Event as EventOf};
 
@@ -27,7 +27,7 @@ fn put_line(alloc: Global, event: &Event, out: &mut Vec<u8>) -> Result<(), NoMem
 ///
 /// Bad comes exactly where no event has it, with the length of its longest prefix that begins some event's line.
 pub fn read_line(alloc: Global, line: &[u8]) -> Result<(), Unread>
-    ensures found { OnOk result ((e : EventOf) × IsLine Fits line_text e line.now) }
+    ensures found { OnOk result ((e : EventOf) × IsLine EventFits line_text e line.now) }
     ensures bad { IfErr result (λ fault. IsBadLine line.now fault) }
 {
     event_of(alloc, line)?;
@@ -39,7 +39,7 @@ pub fn read_line(alloc: Global, line: &[u8]) -> Result<(), Unread>
 /// Bad comes exactly where no event has it, with the length of its longest prefix that begins some event's line.
 pub fn copy_line(alloc: Global, line: &[u8], out: &mut Vec<u8>) -> Result<(), Unread>
     ensures copied { OnOk result (out.new.items ≡ out.old.items ++ line.now ++ 10 ∷ []) }
-    ensures found { OnOk result ((e : EventOf) × IsLine Fits line_text e line.now) }
+    ensures found { OnOk result ((e : EventOf) × IsLine EventFits line_text e line.now) }
     ensures bad { IfErr result (λ fault. IsBadLine line.now fault) }
 {
     let event = event_of(alloc, line)?;

@@ -13,7 +13,7 @@ use Rattle.nc_journal.specs.declared.word.LeftCause.TheVariants.{Length, Expired
 use Rattle.nc_journal.specs.History.{onto}
 use Rattle.nc_journal.specs.Message.{Message, message_of, published, is_gone, buffer, IsRising}
 use Rattle.nc_journal.specs.Sending.{HasId}
-use Rattle.nc_journal.specs.Leaving.{HasMessage, StandsFirst, MakesRoom, LeavesBy, Leaves, LeftAt}
+use Rattle.nc_journal.specs.Leaving.{HasMessage, StandsFirst, MakesRoom, LeavesBy, LeftAt}
 use Rattle.nc_journal.proofs.Cuts.{all-weaker}
 
 -- ids as tests

@@ -5,3 +5,4 @@ pub mod Rising
 pub mod TextLaws
 pub mod Standings
 pub mod Leavings
+pub mod Holdings

@@ -1,12 +1,13 @@
 -- Who was never subscribed is absent.
 use Rattle.std.proofs.Common.{◌≡◌, ℕ, Bool, true, false, cond, ◌==◌, ◌||◌, List, [], ◌∷◌, refl, sym, ◌∙◌, subst, ap, true≢false}
-use Rattle.std.proofs.lemmas.Bool.{eqb-true}
+use Rattle.std.proofs.lemmas.Bool.{eqb-true, eq-eqb}
 use Rattle.nc_journal.specs.declared.event.Event.{Event}
 use Rattle.nc_journal.specs.declared.event.Event.TheVariants.{Subscribed, Started, Sent, Ended}
 use Rattle.nc_journal.specs.declared.word.EndedCause.{EndedCause}
 use Rattle.nc_journal.specs.declared.word.EndedCause.TheVariants as causes
 use Rattle.nc_journal.specs.History.{own, is_by}
-use Rattle.nc_journal.specs.Standing.{Stage, Absent, Over, started, served, stage_of, is_subscribed, EndsBy, AreOrdered}
+use Rattle.nc_journal.specs.Standing.{Stage, Absent, Served, Over, started, served, stage_of, is_subscribed, IsServed, EndsBy, AreOrdered}
+use Rattle.nc_journal.specs.Refused.{UnendedIsRefused}
 
 or_left : (a b : Bool) → (a || b) ≡ false → a ≡ false
 or_left true b h = h
@@ -63,3 +64,16 @@ absent-unless k w (Ended v n cause ∷ h) rule none =
       | false ↦ λ by none. absent-unless k w h rule.0 none
     ]) refl none
 absent-unless k w (e ∷ h) rule none = other-event k w e h (λ g. (refl, refl)) (absent-unless k w h rule.0) (is_by w e) none
+
+-- who was sent the message that ends it and hasn't ended is still served
+pub unended_is_refused : UnendedIsRefused
+unended_is_refused h w k i c id cur looks list old is rule = rule.ended w k served_now
+  where
+    mine : own w (Sent w k i c id cur looks ∷ h) ≡ Sent w k i c id cur looks ∷ own w h
+    mine = ap (λ (b : Bool). cond b (Sent w k i c id cur looks ∷ own w h) (own w h)) (eq-eqb w w refl)
+
+    stage : stage_of k (own w (Sent w k i c id cur looks ∷ h)) ≡ Served list cur
+    stage = ap (stage_of k) mine ∙ ap (λ (b : Bool). cond b (served cur (stage_of k (own w h))) (stage_of k (own w h))) (eq-eqb k k refl) ∙ ap (served cur) is
+
+    served_now : IsServed (stage_of k (own w (Sent w k i c id cur looks ∷ h)))
+    served_now = subst IsServed (sym stage) tt

@@ -9,3 +9,5 @@ pub mod Line
 pub mod Text
 pub mod Leaving
 pub mod Holding
+pub mod Slots
+pub mod Refused

@@ -18,6 +18,6 @@ mod worker_lines;
 
 pub use alert::AlertLine;
 pub use event::{Event, EventList};
-pub use laws::{ids_rise, text_grows};
+pub use laws::{holds_are_granted, ids_rise, last_naming_tells, text_grows, unended_is_refused};
 pub use line::{line_of, put_lines};
 pub use word::{Act, AlertKind, EndedCause, LeftCause, ModeLine, RemovedCause, ShutCause};

@@ -1,24 +1,19 @@
 -- What each step of reading a list of channels leaves to be read.
-use Rattle.std.proofs.Common.{◌≡◌, ◌≢◌, ℕ, ℤ, zero, suc, ◌-◌, ◌<◌, ◌≤◌, Bool, true, false, cond, eqb, drop, List, [], ◌∷◌, ◌++◌, length, Result, Ok, Err, refl, sym, ap, subst, ◌∙◌, append_assoc, arith, length-append}
-use Rattle.std.specs.Prelude.{◌||◌, IsErrAnd, take}
+use Rattle.std.proofs.Common.{◌≡◌, ◌≢◌, ℕ, zero, suc, ◌-◌, ◌<◌, ◌≤◌, Bool, true, false, cond, eqb, drop, List, [], ◌∷◌, ◌++◌, length, refl, sym, ap, subst, ◌∙◌, append_assoc, arith, length-append}
+use Rattle.std.specs.Prelude.{◌||◌, take}
 use Rattle.std.specs.List.{AllByRecursion}
 use Rattle.std.specs.Cmp.Lexicographic.{other_text}
-use Rattle.std.proofs.lemmas.Bool.{eqb-true}
 use Rattle.nc_types.specs.Channel.{name_eq, AreDistinct}
 use Rattle.nc_types.specs.Text.{quoted_byte, quoted}
 use Rattle.nc_grammar.specs.Reading.{Read, Found, Stuck, go_on, map_read, with_first}
-use Rattle.nc_grammar.specs.Label.{label_at, field_at}
 use Rattle.nc_grammar.specs.Quoted.{AreBytes, quoted_at}
-use Rattle.nc_grammar.specs.Maybe.{begins_with, more_at, joined_at, two_at, add_first}
+use Rattle.nc_grammar.specs.Maybe.{begins_with, add_first}
 use Rattle.nc_grammar.specs.Whole.{IsLine}
-use Rattle.nc_grammar.specs.Gives.{Gives, GivesBy}
-use Rattle.nc_grammar.specs.declared.fault.Fault.{Fault}
-use Rattle.nc_grammar.specs.declared.fault.Fault.TheVariants as faults
 use Rattle.nc_grammar.proofs.Exact.{Tells}
 use Rattle.nc_grammar.proofs.Forms.{text_form}
 use Rattle.std.specs.List.{flat_map}
 use Rattle.nc_journal_list.specs.NameReader.{is_among, if_new, new_name_at, more_names_at, list_at}
-use Rattle.nc_journal_list.proofs.Put.{found_value, found_rest, append_front, put_front, put_stuck, from_none, firsts_are}
+use Rattle.nc_journal_list.proofs.Put.{found_value, found_rest, append_front, firsts_are}
 
 -- a name that was read ends with a closing sign
 pub record Closing (t r : List ℕ) : Type 0 where

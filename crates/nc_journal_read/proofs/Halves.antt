@@ -8,9 +8,9 @@ use Rattle.nc_grammar.specs.Gives.{Gives}
 use Rattle.nc_grammar.specs.declared.fault.Fault.{Fault}
 use Rattle.nc_grammar.specs.declared.fault.Fault.TheVariants as faults
 use Rattle.nc_journal.specs.declared.event.Event.{Event}
-use Rattle.nc_journal_read.specs.declared.stored_reading.StoredPlace.{StoredPlace}
+use Rattle.nc_journal_read.specs.declared.stored_reading.StoredFront.{StoredFront}
 use Rattle.nc_journal_read.specs.declared.stored_reading.StoredContent.{StoredContent}
-use Rattle.nc_journal_read.specs.EventTable.{parts, place_fields, content_fields, place_of, content_of, place_at, content_at, stored_of, stored_row}
+use Rattle.nc_journal_read.specs.EventTable.{parts, front_fields, content_fields, front_of, content_of, front_at, content_at, stored_of, stored_row}
 
 -- the values of some fields and of more
 abbrev pub both : (K : Kit) (fs gs : List (Field K)) → Values K fs → Values K gs → Values K (fs ++ gs)
@@ -39,28 +39,28 @@ halves K (f ∷ fs) gs t = by_field (λ r. halves K fs gs r) (field_at (label_of
     by_field rest (Stuck r) = refl
 
 -- the event of a stored message is read as its place, and then the message
-pub stored_halves : (t : List ℕ) → row_at parts stored_row t ≡ go_on (place_at t) (λ p r. map_read (stored_of p) (content_at r))
-stored_halves t = ap (map_read stored_row.make) (halves parts place_fields content_fields t) ∙ by_place (fields_at parts place_fields t)
+pub stored_halves : (t : List ℕ) → row_at parts stored_row t ≡ go_on (front_at t) (λ p r. map_read (stored_of p) (content_at r))
+stored_halves t = ap (map_read stored_row.make) (halves parts front_fields content_fields t) ∙ by_place (fields_at parts front_fields t)
   where
-    by_content : (x : Values parts place_fields) (y : Read (Values parts content_fields)) → map_read stored_row.make (map_read (both parts place_fields content_fields x) y) ≡ map_read (stored_of (place_of x)) (map_read content_of y)
+    by_content : (x : Values parts front_fields) (y : Read (Values parts content_fields)) → map_read stored_row.make (map_read (both parts front_fields content_fields x) y) ≡ map_read (stored_of (front_of x)) (map_read content_of y)
     by_content x (Found z r) = refl
     by_content x (Stuck r) = refl
 
-    by_place : (y : Read (Values parts place_fields)) → map_read stored_row.make (go_on y (λ x r. map_read (both parts place_fields content_fields x) (fields_at parts content_fields r))) ≡ go_on (map_read place_of y) (λ p r. map_read (stored_of p) (content_at r))
+    by_place : (y : Read (Values parts front_fields)) → map_read stored_row.make (go_on y (λ x r. map_read (both parts front_fields content_fields x) (fields_at parts content_fields r))) ≡ go_on (map_read front_of y) (λ p r. map_read (stored_of p) (content_at r))
     by_place (Found x r) = by_content x (fields_at parts content_fields r)
     by_place (Stuck r) = refl
 
 -- both were found
-pub stored_found : (t q r : List ℕ) (p : StoredPlace) (m : StoredContent) (e : Event) → place_at t ≡ Found p q → content_at q ≡ Found m r → e ≡ stored_of p m → row_at parts stored_row t ≡ Found e r
+pub stored_found : (t q r : List ℕ) (p : StoredFront) (m : StoredContent) (e : Event) → front_at t ≡ Found p q → content_at q ≡ Found m r → e ≡ stored_of p m → row_at parts stored_row t ≡ Found e r
 stored_found t q r p m e f g is =
-    stored_halves t ∙ ap (λ (y : Read StoredPlace). go_on y (λ p r. map_read (stored_of p) (content_at r))) f ∙ ap (map_read (stored_of p)) g ∙ ap (λ (x : Event). (let y : Read Event = Found x r in y)) (sym is)
+    stored_halves t ∙ ap (λ (y : Read StoredFront). go_on y (λ p r. map_read (stored_of p) (content_at r))) f ∙ ap (map_read (stored_of p)) g ∙ ap (λ (x : Event). (let y : Read Event = Found x r in y)) (sym is)
 
 -- the place was found, and what the message is can't be read
-pub stored_fault : (t q r : List ℕ) (p : StoredPlace) (f : Fault) (given : Result StoredContent Fault) (outcome : Result Event Fault) → place_at t ≡ Found p q → Gives r given (content_at q) → given ≡ Err f → IsErrAnd outcome (λ g. g ≡ f) → Gives r outcome (row_at parts stored_row t)
+pub stored_fault : (t q r : List ℕ) (p : StoredFront) (f : Fault) (given : Result StoredContent Fault) (outcome : Result Event Fault) → front_at t ≡ Found p q → Gives r given (content_at q) → given ≡ Err f → IsErrAnd outcome (λ g. g ≡ f) → Gives r outcome (row_at parts stored_row t)
 stored_fault t q r p f given (Ok e) found h is same = absurd same
 stored_fault t q r p f given (Err g) found h is same =
     subst (λ (k : Fault). Gives r (let o : Result Event Fault = Err k in o) (row_at parts stored_row t)) (sym same) (by_fault f (subst (λ (o : Result StoredContent Fault). Gives r o (content_at q)) is h))
   where
     by_fault : (f : Fault) → Gives r (let o : Result StoredContent Fault = Err f in o) (content_at q) → Gives r (let o : Result Event Fault = Err f in o) (row_at parts stored_row t)
-    by_fault faults.Stuck k = stored_halves t ∙ ap (λ (y : Read StoredPlace). go_on y (λ p r. map_read (stored_of p) (content_at r))) found ∙ ap (map_read (stored_of p)) k
+    by_fault faults.Stuck k = stored_halves t ∙ ap (λ (y : Read StoredFront). go_on y (λ p r. map_read (stored_of p) (content_at r))) found ∙ ap (map_read (stored_of p)) k
     by_fault faults.NoMemory k = tt

@@ -15,9 +15,9 @@ use Rattle.nc_journal_field.specs.Field.{list_text, numbers_text}
 use Rattle.nc_types.specs.Written.{id_text, cursor_text}
 use Rattle.nc_journal.specs.Word.{act_word, mode_word, left_word, removed_word, ended_word, shut_word, kind_word}
 use Rattle.nc_journal.specs.Line.{line, alert_text}
-use Rattle.nc_journal_read.specs.Fit.{IsList, AlertFits, Fits}
+use Rattle.nc_journal_read.specs.Fit.{IsList, AlertFits, EventFits}
 use Rattle.nc_journal_read.specs.PlaceReader.{sending_text}
-use Rattle.nc_journal_read.specs.Shape.{number, truth, text, id, cursor, start, list, looks, subs, optional_number, optional_text, optional_id, optional_info, optional_full, optional_list, kit, read_of}
+use Rattle.nc_journal_read.specs.Shape.{number, truth, text, id, cursor, start, list, looks, subs, optional_number, optional_text, optional_id, optional_info, optional_full, optional_list, kit, value_at}
 use Rattle.nc_journal_read.specs.WordTable.{word_row, act_rows, mode_rows, left_rows, removed_rows, ended_rows, shut_rows, kind_rows, act_at, mode_at, left_at, removed_at, ended_at, shut_at, kind_at}
 use Rattle.nc_journal_read.specs.AlertTable.{publish_row, alert_rows, alert_at}
 use Rattle.nc_journal_read.specs.EventTable.{Part, plain, act, mode, left_cause, removed_cause, ended_cause, shut_cause, kind, alert, place, PartFits, part_text, part_at, parts, clock_row, event_rows, event_at}
@@ -175,7 +175,7 @@ as_shape : (p : Part) → SomeExact (IsLine (PartFits p) (part_text p)) (part_at
 as_shape p x = record { stays = x.stays; blank = x.blank; exact = to_spells parts p x.stays x.exact }
 
 parts_are : IsKit parts
-parts_are (plain s) = (let x = kit_is s in record { stays = x.stays; blank = x.blank; exact = IsExact-same (Spells kit s) (Spells parts (plain s)) x.stays (read_of s) (λ a u m. record { fits = m.fits; text = m.text }) (λ a u m. record { fits = m.fits; text = m.text }) x.exact })
+parts_are (plain s) = (let x = kit_is s in record { stays = x.stays; blank = x.blank; exact = IsExact-same (Spells kit s) (Spells parts (plain s)) x.stays (value_at s) (λ a u m. record { fits = m.fits; text = m.text }) (λ a u m. record { fits = m.fits; text = m.text }) x.exact })
 parts_are act = as_shape act act_exact
 parts_are mode = as_shape mode mode_exact
 parts_are left_cause = as_shape left_cause left_exact
@@ -202,10 +202,10 @@ sent_line w k i c stamp cur looked =
     ap (λ (l : List ℕ). l ++ codes " looks=" ++ numbers_text looked)
     (as_one (codes "sent w=" ++ decimal w ++ codes " k=" ++ decimal k ++ codes " i=") (decimal i) (codes " c=") (quoted c) (codes " id=") (id_text stamp) (codes " cur=") (cursor_text (Some i) cur))
 
-told : AllTold parts Fits line (clock_row ∷ event_rows)
+told : AllTold parts EventFits line (clock_row ∷ event_rows)
 told = (λ x h. ((h.0, h.1.0), refl), (λ x h. ((h.0, h.1.0), refl), (λ x h. ((h.0, h.1.0, h.1.1.0), refl), (λ x h. ((h.0, h.1.0, h.1.1.0, h.1.1.1.1.0, h.1.1.1.1.1.0, h.1.1.1.1.1.1.0), refl), (λ x h. ((h.0, h.1.0, h.1.1.0, h.1.1.1.0, h.1.1.1.1.0), refl), (λ x h. ((h.0, h.1.0, h.1.1.0, h.1.1.1.0, h.1.1.1.1.1.0, h.1.1.1.1.1.1.0), refl), (λ x h. ((h.0, h.1.0, h.1.1.0), refl), (λ x h. ((h.0, h.1.0, h.1.1.0, h.1.1.1.0), refl), (λ x h. ((h.0, h.1.0, h.1.1.0, h.1.1.1.0), refl), (λ x h. ((h.0, h.1.0), refl), (λ x h. ((h.0, h.1.0, h.1.1.0, h.1.1.1.0, h.1.1.1.1.0, h.1.1.1.1.1.0, h.1.1.1.1.1.1.1.0, h.1.1.1.1.1.1.1.1.0, h.1.1.1.1.1.1.1.1.1.0, h.1.1.1.1.1.1.1.1.1.1.0, h.1.1.1.1.1.1.1.1.1.1.1.0), refl), (λ x h. ((h.0, h.1.0, h.1.1.0, h.1.1.1.0), refl), (λ x h. ((h.0, h.1.0, h.1.1.0, h.1.1.1.0, h.1.1.1.1.0, h.1.1.1.1.1.0, h.1.1.1.1.1.1.0, h.1.1.1.1.1.1.1.0), refl), (λ x h. ((h.0, h.1.0, h.1.1.0, h.1.1.1.0, h.1.1.1.1.0, h.1.1.1.1.1.0, h.1.1.1.1.1.1.0, h.1.1.1.1.1.1.1.0), refl), (λ x h. ((h.0, h.1.0, h.1.1.0, h.1.1.1.0), refl), (λ x h. ((h.0, h.1.0, h.1.1.0, h.1.1.1.0), refl), (λ x h. ((h.0, h.1.0), refl), (λ x h. ((h.0, h.1.0, h.1.1.0), refl), (λ x h. ((h.0, h.1.0, h.1.1.0.place, h.1.1.0.name, h.1.1.0.id, h.1.1.0.cursor, h.1.1.0.below, h.1.1.1.0), sent_line x.0 x.1.0 x.1.1.0.0 x.1.1.0.1.0 x.1.1.0.1.1.0 x.1.1.0.1.1.1 x.1.1.1.0), (λ x h. ((h.0, h.1.0), refl), (λ x h. ((h.0, h.1.0, h.1.1.0), refl), (λ x h. ((h.0, h.1.0, h.1.1.0), refl), (λ x h. ((h.0, h.1.0), refl), (λ x h. ((h.0, h.1.0, h.1.1.0, h.1.1.1.0), refl), (λ x h. ((h.0, h.1.0, h.1.1.0), refl), (λ x h. (h.0, refl), (λ x h. (tt, refl), tt)))))))))))))))))))))))))))
 
-listed : (e : Event) → Fits e → Listed parts clock_row event_rows Fits line e
+listed : (e : Event) → EventFits e → Listed parts clock_row event_rows EventFits line e
 listed (Clock w t) h = record { place = 0; within = word_within parts clock_row event_rows 0 (omega arith); values = (w, (t, tt)); fit = (h.0, (h.1, tt)); is = refl }
 listed (Opened w conn) h = record { place = 1; within = word_within parts clock_row event_rows 1 (omega arith); values = (w, (conn, tt)); fit = (h.0, (h.1, tt)); is = refl }
 listed (Got w conn bytes) h = record { place = 2; within = word_within parts clock_row event_rows 2 (omega arith); values = (w, (conn, (bytes, tt))); fit = (h.0, (h.1, (h.2, tt))); is = refl }
@@ -235,8 +235,8 @@ listed (Pending n) h = record { place = 25; within = word_within parts clock_row
 listed Quiet h = record { place = 26; within = word_within parts clock_row event_rows 26 (omega arith); values = tt; fit = tt; is = refl }
 
 -- a line is read as the event that has it, and else stops where no event's line goes on
-pub event_exact : SomeExact (IsLine Fits line) event_at
-event_exact = table_exact parts parts_are clock_row event_rows Fits line refl refl told listed
+pub event_exact : SomeExact (IsLine EventFits line) event_at
+event_exact = table_exact parts parts_are clock_row event_rows EventFits line refl refl told listed
 
-pub one_line : (a b : Event) → Fits a → Fits b → line a ≡ line b → a ≡ b
+pub one_line : (a b : Event) → EventFits a → EventFits b → line a ≡ line b → a ≡ b
 one_line a b f g e = event_exact.exact.set.unique a b (line a) (record { fits = f; text = refl }) (record { fits = g; text = e })

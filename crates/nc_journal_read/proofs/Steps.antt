@@ -1,26 +1,16 @@
 -- What each step of reading numbers and tags leaves to be read.
-use Rattle.std.proofs.Common.{◌≡◌, ◌≢◌, ℕ, ℤ, zero, suc, ◌-◌, ◌<◌, ◌≤◌, Bool, true, false, cond, eqb, drop, List, [], ◌∷◌, ◌++◌, length, Result, Ok, Err, refl, sym, ap, subst, ◌∙◌, append_assoc, arith, length-append}
-use Rattle.std.specs.Prelude.{◌||◌, IsErrAnd, take}
-use Rattle.std.specs.List.{AllByRecursion}
-use Rattle.std.specs.Cmp.Lexicographic.{other_text}
+use Rattle.std.proofs.Common.{◌≡◌, ℕ, ℤ, suc, Bool, true, false, cond, drop, List, [], ◌∷◌, ◌++◌, length, Result, Ok, Err, refl, sym, ap, subst, ◌∙◌}
+use Rattle.std.specs.Prelude.{IsErrAnd}
 use Rattle.std.proofs.lemmas.Bool.{eqb-true}
-use Rattle.nc_types.specs.Channel.{name_eq, AreDistinct}
-use Rattle.nc_types.specs.Text.{quoted_byte, quoted}
 use Rattle.nc_grammar.specs.Reading.{Read, Found, Stuck, go_on, map_read, with_first}
 use Rattle.nc_grammar.specs.Label.{label_at, field_at}
-use Rattle.nc_grammar.specs.Quoted.{AreBytes, quoted_at}
 use Rattle.nc_grammar.specs.Maybe.{begins_with, more_at, joined_at, two_at, add_first}
-use Rattle.nc_grammar.specs.Whole.{IsLine}
 use Rattle.nc_grammar.specs.Gives.{Gives, GivesBy}
 use Rattle.nc_grammar.specs.declared.fault.Fault.{Fault}
 use Rattle.nc_grammar.specs.declared.fault.Fault.TheVariants as faults
-use Rattle.nc_grammar.proofs.Exact.{Tells}
-use Rattle.nc_grammar.proofs.Forms.{text_form}
-use Rattle.std.specs.List.{flat_map}
 use Rattle.nc_journal_read.specs.ValueReader.{u64_at, tag_at, from_first, numbers_at}
-use Rattle.nc_journal_list.specs.NameReader.{is_among, if_new, new_name_at, more_names_at, list_at}
 use Rattle.nc_journal_read.specs.PlaceReader.{first_and_more, only, tag_before, more_tags_at, bracketed_at, sent_tags_at}
-use Rattle.nc_journal_list.proofs.Put.{found_value, found_rest, append_front, put_front, put_stuck, from_none, firsts_are}
+use Rattle.nc_journal_list.proofs.Put.{put_front, put_stuck, from_none, firsts_are}
 
 joined_onto : {A : Type 0} (read : List ℕ → Read A) (y : Read A) → add_first (go_on y (λ a rest. with_first a (more_at (length rest) read rest))) ≡ go_on y (λ a q. map_read (λ zs. a ∷ zs) (more_at (length q) read q))
 joined_onto read (Found a r) = firsts_are a (more_at (length r) read r)

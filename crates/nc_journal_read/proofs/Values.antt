@@ -26,7 +26,7 @@ use Rattle.nc_grammar.proofs.Two.{IsTwo, two_exact, IsEither, on_left, on_right,
 use Rattle.nc_grammar.proofs.Forms.{number_form, maybe_form, joined_form}
 use Rattle.nc_journal_field.specs.Field.{truth_text, optional, start_text, info_text, full_text}
 use Rattle.nc_types.specs.Written.{joined, tag_text, id_text, cursor_text}
-use Rattle.nc_journal_read.specs.Fit.{IsU64, IsId, IsCursor, IsStart, IsInfo, IsFull}
+use Rattle.nc_journal_read.specs.Fit.{IsU64, IsId, IsCursor, IsCursorIfGiven, IsInfo, IsFull}
 use Rattle.nc_journal_read.specs.ValueReader.{u64_at, time_at, truth_of, truth_at, tag_of, tag_at, id_of, id_at, cursor_of, cursor_at, start_word_at, start_at, info_of, info_at, full_of, full_at}
 
 -- the same values and texts in other words
@@ -257,18 +257,18 @@ any_start_form =
     choice_exact 111 (IsWordOf Oldest (codes "oldest")) IsLater nothing (either nothing cursor_stays) _ _ oldest_or_later (word_of Oldest (codes "oldest"))
     (choice_exact 110 (IsWordOf Newest (codes "newest")) IsGiven nothing cursor_stays _ _ newest_or_given (word_of Newest (codes "newest")) (IsExact-named Given (IsLine IsCursor (cursor_text None)) cursor_stays cursor_at cursor_form))
 
-start_there : (a : Start) (u : List ℕ) → IsAnyStart a u → IsLine IsStart start_text a u
-start_there a u (on_left m) = subst (λ (b : Start). IsLine IsStart start_text b u) (sym m.1) (record { fits = tt; text = m.2 })
-start_there a u (on_right (on_left m)) = subst (λ (b : Start). IsLine IsStart start_text b u) (sym m.1) (record { fits = tt; text = m.2 })
-start_there a u (on_right (on_right m)) = subst (λ (b : Start). IsLine IsStart start_text b u) (sym m.1) (record { fits = m.2.fits; text = m.2.text })
+start_there : (a : Start) (u : List ℕ) → IsAnyStart a u → IsLine IsCursorIfGiven start_text a u
+start_there a u (on_left m) = subst (λ (b : Start). IsLine IsCursorIfGiven start_text b u) (sym m.1) (record { fits = tt; text = m.2 })
+start_there a u (on_right (on_left m)) = subst (λ (b : Start). IsLine IsCursorIfGiven start_text b u) (sym m.1) (record { fits = tt; text = m.2 })
+start_there a u (on_right (on_right m)) = subst (λ (b : Start). IsLine IsCursorIfGiven start_text b u) (sym m.1) (record { fits = m.2.fits; text = m.2.text })
 
-start_back : (a : Start) (u : List ℕ) → IsLine IsStart start_text a u → IsAnyStart a u
+start_back : (a : Start) (u : List ℕ) → IsLine IsCursorIfGiven start_text a u → IsAnyStart a u
 start_back Oldest u m = on_left (tt, refl, m.text)
 start_back Newest u m = on_right (on_left (tt, refl, m.text))
 start_back (Given cursor) u m = on_right (on_right (cursor, refl, record { fits = m.fits; text = m.text }))
 
-pub start_form : IsExact (IsLine IsStart start_text) (either nothing (either nothing cursor_stays)) start_at
-start_form = IsExact-same IsAnyStart (IsLine IsStart start_text) (either nothing (either nothing cursor_stays)) start_at start_there start_back any_start_form
+pub start_form : IsExact (IsLine IsCursorIfGiven start_text) (either nothing (either nothing cursor_stays)) start_at
+start_form = IsExact-same IsAnyStart (IsLine IsCursorIfGiven start_text) (either nothing (either nothing cursor_stays)) start_at start_there start_back any_start_form
 
 -- ---- what is told of a channel, and of full slots
 

@@ -5,14 +5,14 @@ use Rattle.nc_grammar.specs.Rows.{Kit, Field, Row, Values, fields_at, line_at}
 use Rattle.nc_journal.specs.Word.{act_word, mode_word, left_word, removed_word, ended_word, shut_word, kind_word}
 use Rattle.nc_journal.specs.Line.{alert_text}
 use Rattle.nc_journal_read.specs.Fit.{AlertFits}
-use Rattle.nc_journal_read.specs.Shape.{Shape, number, truth, text, id, cursor, start, list, looks, optional_number, optional_text, optional_id, optional_info, optional_list, ValueOf, FitsOf, text_of, read_of}
+use Rattle.nc_journal_read.specs.Shape.{Shape, number, truth, text, id, cursor, start, list, looks, optional_number, optional_text, optional_id, optional_info, optional_list, ValueOf, FitsOf, value_text, value_at}
 use Rattle.nc_journal_read.specs.WordTable.{act_at, mode_at, left_at, removed_at, ended_at, shut_at, kind_at}
 use Rattle.nc_journal_read.specs.AlertTable.{alert_at}
 use Rattle.nc_journal_read.specs.PlaceReader.{Sending, IsSending, sending_text, sending_at}
 use Rattle.nc_journal.specs.declared.alert.AlertLine.{AlertLine}
 use Rattle.nc_journal.specs.declared.event.Event.{Event}
 use Rattle.nc_journal.specs.declared.event.Event.TheVariants.{Clock, Opened, Got, Asked, Answered, Subscribed, Started, Joined, Parted, Raised, Stored, Left, Looked, Edged, Granted, Released, Freed, Removed, Sent, Ended, Replied, Wrote, Shut, Made, Took, Pending, Quiet}
-use Rattle.nc_journal_read.specs.declared.stored_reading.StoredPlace.{StoredPlace}
+use Rattle.nc_journal_read.specs.declared.stored_reading.StoredFront.{StoredFront}
 use Rattle.nc_journal_read.specs.declared.stored_reading.StoredContent.{StoredContent}
 use Rattle.nc_journal.specs.declared.word.Act.{Act}
 use Rattle.nc_journal.specs.declared.word.ModeLine.{ModeLine}
@@ -63,7 +63,7 @@ PartFits place x = IsSending x
 
 -- their texts
 abbrev pub part_text : (p : Part) → PartValue p → List ℕ
-part_text (plain s) x = text_of s x
+part_text (plain s) x = value_text s x
 part_text act x = act_word x
 part_text mode x = mode_word x
 part_text left_cause x = left_word x
@@ -76,7 +76,7 @@ part_text place x = sending_text x
 
 -- reading such a text
 abbrev pub part_at : (p : Part) → List ℕ → Read (PartValue p)
-part_at (plain s) t = read_of s t
+part_at (plain s) t = value_at s t
 part_at act t = act_at t
 part_at mode t = mode_at t
 part_at left_cause t = left_at t
@@ -180,38 +180,38 @@ raised_row = record {
 }
 
 -- the fields of `stored` that tell where a message lies and until when
-abbrev pub place_fields : List (Field parts)
-place_fields = field (codes "w") number ∷ field (codes "c") text ∷ field (codes "id") id ∷ field (codes "slot") number ∷ field (codes "len") number ∷ field (codes "exp") number ∷ []
+abbrev pub front_fields : List (Field parts)
+front_fields = field (codes "w") number ∷ field (codes "c") text ∷ field (codes "id") id ∷ field (codes "slot") number ∷ field (codes "len") number ∷ field (codes "exp") number ∷ []
 
 -- the fields of `stored` that tell what a message is
 abbrev pub content_fields : List (Field parts)
 content_fields = field (codes "kept") truth ∷ field (codes "members") number ∷ field (codes "from") number ∷ field (codes "r") number ∷ field (codes "ct") optional_text ∷ field (codes "body") text ∷ []
 
 -- their values
-abbrev pub place_of : Values parts place_fields → StoredPlace
-place_of x = record { w = x.0; c = x.1.0; id = x.1.1.0; slot = x.1.1.1.0; len = x.1.1.1.1.0; exp = x.1.1.1.1.1.0 }
+abbrev pub front_of : Values parts front_fields → StoredFront
+front_of x = record { w = x.0; c = x.1.0; id = x.1.1.0; slot = x.1.1.1.0; len = x.1.1.1.1.0; exp = x.1.1.1.1.1.0 }
 
 -- their values
 abbrev pub content_of : Values parts content_fields → StoredContent
 content_of x = record { kept = x.0; members = x.1.0; from = x.1.1.0; r = x.1.1.1.0; ct = x.1.1.1.1.0; body = x.1.1.1.1.1.0 }
 
 -- reads them
-abbrev pub place_at : List ℕ → Read StoredPlace
-place_at t = map_read place_of (fields_at parts place_fields t)
+abbrev pub front_at : List ℕ → Read StoredFront
+front_at t = map_read front_of (fields_at parts front_fields t)
 
 -- reads them
 abbrev pub content_at : List ℕ → Read StoredContent
 content_at t = map_read content_of (fields_at parts content_fields t)
 
--- the event of a message that is at a place
-abbrev pub stored_of : StoredPlace → StoredContent → Event
+-- the event of both
+abbrev pub stored_of : StoredFront → StoredContent → Event
 stored_of p m = Stored p.w p.c p.id p.slot p.len p.exp m.kept m.members m.from m.r m.ct m.body
 
 -- `stored` and its fields
 abbrev pub stored_row : Row parts Event
 stored_row = record {
   word = codes "stored";
-  fields = place_fields ++ content_fields;
+  fields = front_fields ++ content_fields;
   make = λ x. Stored x.0 x.1.0 x.1.1.0 x.1.1.1.0 x.1.1.1.1.0 x.1.1.1.1.1.0 x.1.1.1.1.1.1.0 x.1.1.1.1.1.1.1.0 x.1.1.1.1.1.1.1.1.0 x.1.1.1.1.1.1.1.1.1.0 x.1.1.1.1.1.1.1.1.1.1.0 x.1.1.1.1.1.1.1.1.1.1.1.0;
 }
 

@@ -35,10 +35,10 @@ pub record IsCursor (cursor : CursorAt) : Type 0 where
   pub tags : AreTags cursor.tags
 
 -- a given cursor is one
-abbrev pub IsStart : Start → Type 0
-IsStart Oldest = Unit {0}
-IsStart Newest = Unit {0}
-IsStart (Given cursor) = IsCursor cursor
+abbrev pub IsCursorIfGiven : Start → Type 0
+IsCursorIfGiven Oldest = Unit {0}
+IsCursorIfGiven Newest = Unit {0}
+IsCursorIfGiven (Given cursor) = IsCursor cursor
 
 -- a list has a name, and none twice
 pub record IsList (names : List (List ℕ)) : Type 0 where
@@ -75,31 +75,31 @@ AlertFits (alerts.Info r c) = IsU64 r × AreBytes c
 AlertFits (alerts.InfoAnswer r status info) = IsU64 r × IsU64 status × OrNone IsInfo info
 
 -- each number is one of 64 bits, each time, tag, name and list is one of its type, and the place of a sent is below the number of tags
-abbrev pub Fits : Event → Type 0
-Fits (Clock w t) = IsU64 w × IsU64 t
-Fits (Opened w conn) = IsU64 w × IsU64 conn
-Fits (Got w conn bytes) = IsU64 w × IsU64 conn × AreBytes bytes
-Fits (Asked w r conn act list status rule) = IsU64 w × IsU64 r × OrNone IsU64 conn × OrNone IsList list × IsU64 status × IsU64 rule
-Fits (Answered w r conn status info json close) = IsU64 w × IsU64 r × OrNone IsU64 conn × IsU64 status × OrNone IsInfo info
-Fits (Subscribed w k conn list mode start timeout close) = IsU64 w × IsU64 k × OrNone IsU64 conn × IsList list × IsStart start × IsU64 timeout
-Fits (Started w k cur) = IsU64 w × IsU64 k × IsCursor cur
-Fits (Joined w c from k) = IsU64 w × AreBytes c × IsU64 from × IsU64 k
-Fits (Parted w c from k) = IsU64 w × AreBytes c × IsU64 from × IsU64 k
-Fits (Raised w t) = IsU64 w × IsU64 t
-Fits (Stored w c id slot len exp kept members from r ct body) = IsU64 w × AreBytes c × IsId id × IsU64 slot × IsU64 len × IsU64 exp × IsU64 members × IsU64 from × IsU64 r × OrNone AreBytes ct × AreBytes body
-Fits (Left w c id slot cause) = IsU64 w × AreBytes c × IsId id × IsU64 slot
-Fits (Looked w q from number c after floor found) = IsU64 w × IsU64 q × IsU64 from × IsU64 number × AreBytes c × IsId after × IsU64 floor × OrNone IsId found
-Fits (Edged w q from number k c floor last) = IsU64 w × IsU64 q × IsU64 from × IsU64 number × IsU64 k × AreBytes c × IsU64 floor × IsId last
-Fits (Granted w g slot to) = IsU64 w × IsU64 g × IsU64 slot × IsU64 to
-Fits (Released w owner g slot) = IsU64 w × IsU64 owner × IsU64 g × IsU64 slot
-Fits (Freed w slot) = IsU64 w × IsU64 slot
-Fits (Removed w c last cause) = IsU64 w × AreBytes c × IsId last
-Fits (Sent w k i c id cur looks) = IsU64 w × IsU64 k × IsU64 i × AreBytes c × IsId id × IsCursor cur × (i < length cur.tags) × AreNumbers looks
-Fits (Ended w k cause) = IsU64 w × IsU64 k
-Fits (Replied w conn bytes) = IsU64 w × IsU64 conn × AreBytes bytes
-Fits (Wrote w conn bytes) = IsU64 w × IsU64 conn × AreBytes bytes
-Fits (Shut w conn cause) = IsU64 w × IsU64 conn
-Fits (Made w to n a) = IsU64 w × IsU64 to × IsU64 n × AlertFits a
-Fits (Took w from n a) = IsU64 w × IsU64 from × IsU64 n
-Fits (Pending n) = IsU64 n
-Fits Quiet = Unit {0}
+abbrev pub EventFits : Event → Type 0
+EventFits (Clock w t) = IsU64 w × IsU64 t
+EventFits (Opened w conn) = IsU64 w × IsU64 conn
+EventFits (Got w conn bytes) = IsU64 w × IsU64 conn × AreBytes bytes
+EventFits (Asked w r conn act list status rule) = IsU64 w × IsU64 r × OrNone IsU64 conn × OrNone IsList list × IsU64 status × IsU64 rule
+EventFits (Answered w r conn status info json close) = IsU64 w × IsU64 r × OrNone IsU64 conn × IsU64 status × OrNone IsInfo info
+EventFits (Subscribed w k conn list mode start timeout close) = IsU64 w × IsU64 k × OrNone IsU64 conn × IsList list × IsCursorIfGiven start × IsU64 timeout
+EventFits (Started w k cur) = IsU64 w × IsU64 k × IsCursor cur
+EventFits (Joined w c from k) = IsU64 w × AreBytes c × IsU64 from × IsU64 k
+EventFits (Parted w c from k) = IsU64 w × AreBytes c × IsU64 from × IsU64 k
+EventFits (Raised w t) = IsU64 w × IsU64 t
+EventFits (Stored w c id slot len exp kept members from r ct body) = IsU64 w × AreBytes c × IsId id × IsU64 slot × IsU64 len × IsU64 exp × IsU64 members × IsU64 from × IsU64 r × OrNone AreBytes ct × AreBytes body
+EventFits (Left w c id slot cause) = IsU64 w × AreBytes c × IsId id × IsU64 slot
+EventFits (Looked w q from number c after floor found) = IsU64 w × IsU64 q × IsU64 from × IsU64 number × AreBytes c × IsId after × IsU64 floor × OrNone IsId found
+EventFits (Edged w q from number k c floor last) = IsU64 w × IsU64 q × IsU64 from × IsU64 number × IsU64 k × AreBytes c × IsU64 floor × IsId last
+EventFits (Granted w g slot to) = IsU64 w × IsU64 g × IsU64 slot × IsU64 to
+EventFits (Released w owner g slot) = IsU64 w × IsU64 owner × IsU64 g × IsU64 slot
+EventFits (Freed w slot) = IsU64 w × IsU64 slot
+EventFits (Removed w c last cause) = IsU64 w × AreBytes c × IsId last
+EventFits (Sent w k i c id cur looks) = IsU64 w × IsU64 k × IsU64 i × AreBytes c × IsId id × IsCursor cur × (i < length cur.tags) × AreNumbers looks
+EventFits (Ended w k cause) = IsU64 w × IsU64 k
+EventFits (Replied w conn bytes) = IsU64 w × IsU64 conn × AreBytes bytes
+EventFits (Wrote w conn bytes) = IsU64 w × IsU64 conn × AreBytes bytes
+EventFits (Shut w conn cause) = IsU64 w × IsU64 conn
+EventFits (Made w to n a) = IsU64 w × IsU64 to × IsU64 n × AlertFits a
+EventFits (Took w from n a) = IsU64 w × IsU64 from × IsU64 n
+EventFits (Pending n) = IsU64 n
+EventFits Quiet = Unit {0}

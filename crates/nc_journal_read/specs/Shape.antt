@@ -13,7 +13,7 @@ use Rattle.nc_grammar.specs.Maybe.{OrNone, option_at}
 use Rattle.nc_grammar.specs.Rows.{Kit, Field}
 use Rattle.nc_journal_field.specs.Field.{truth_text, optional, list_text, numbers_text, subs_text, start_text, info_text, full_text}
 use Rattle.nc_types.specs.Written.{id_text, cursor_text}
-use Rattle.nc_journal_read.specs.Fit.{IsU64, AreNumbers, IsId, IsCursor, IsStart, IsList, IsInfo, IsFull}
+use Rattle.nc_journal_read.specs.Fit.{IsU64, AreNumbers, IsId, IsCursor, IsCursorIfGiven, IsList, IsInfo, IsFull}
 use Rattle.nc_journal_read.specs.ValueReader.{u64_at, truth_at, id_at, cursor_at, start_at, info_at, full_at, numbers_at, subs_at}
 use Rattle.nc_journal_list.specs.NameReader.{list_at}
 
@@ -60,7 +60,7 @@ FitsOf truth x = Unit {0}
 FitsOf text x = AreBytes x
 FitsOf id x = IsId x
 FitsOf cursor x = IsCursor x
-FitsOf start x = IsStart x
+FitsOf start x = IsCursorIfGiven x
 FitsOf list x = IsList x
 FitsOf looks x = AreNumbers x
 FitsOf subs x = AreNumbers x
@@ -72,44 +72,44 @@ FitsOf optional_full x = OrNone IsFull x
 FitsOf optional_list x = OrNone IsList x
 
 -- their texts
-abbrev pub text_of : (s : Shape) → ValueOf s → List ℕ
-text_of number x = decimal x
-text_of truth x = truth_text x
-text_of text x = quoted x
-text_of id x = id_text x
-text_of cursor x = cursor_text None x
-text_of start x = start_text x
-text_of list x = list_text x
-text_of looks x = numbers_text x
-text_of subs x = subs_text x
-text_of optional_number x = optional decimal x
-text_of optional_text x = optional quoted x
-text_of optional_id x = optional id_text x
-text_of optional_info x = optional info_text x
-text_of optional_full x = optional full_text x
-text_of optional_list x = optional list_text x
+abbrev pub value_text : (s : Shape) → ValueOf s → List ℕ
+value_text number x = decimal x
+value_text truth x = truth_text x
+value_text text x = quoted x
+value_text id x = id_text x
+value_text cursor x = cursor_text None x
+value_text start x = start_text x
+value_text list x = list_text x
+value_text looks x = numbers_text x
+value_text subs x = subs_text x
+value_text optional_number x = optional decimal x
+value_text optional_text x = optional quoted x
+value_text optional_id x = optional id_text x
+value_text optional_info x = optional info_text x
+value_text optional_full x = optional full_text x
+value_text optional_list x = optional list_text x
 
 -- reading such a text
-abbrev pub read_of : (s : Shape) → List ℕ → Read (ValueOf s)
-read_of number t = u64_at t
-read_of truth t = truth_at t
-read_of text t = quoted_at t
-read_of id t = id_at t
-read_of cursor t = cursor_at t
-read_of start t = start_at t
-read_of list t = list_at t
-read_of looks t = numbers_at t
-read_of subs t = subs_at t
-read_of optional_number t = option_at u64_at t
-read_of optional_text t = option_at quoted_at t
-read_of optional_id t = option_at id_at t
-read_of optional_info t = option_at info_at t
-read_of optional_full t = option_at full_at t
-read_of optional_list t = option_at list_at t
+abbrev pub value_at : (s : Shape) → List ℕ → Read (ValueOf s)
+value_at number t = u64_at t
+value_at truth t = truth_at t
+value_at text t = quoted_at t
+value_at id t = id_at t
+value_at cursor t = cursor_at t
+value_at start t = start_at t
+value_at list t = list_at t
+value_at looks t = numbers_at t
+value_at subs t = subs_at t
+value_at optional_number t = option_at u64_at t
+value_at optional_text t = option_at quoted_at t
+value_at optional_id t = option_at id_at t
+value_at optional_info t = option_at info_at t
+value_at optional_full t = option_at full_at t
+value_at optional_list t = option_at list_at t
 
 -- the shapes with their texts and readers
 abbrev pub kit : Kit
-kit = record { Shape = Shape; Value = ValueOf; Fits = FitsOf; text = text_of; read = read_of }
+kit = record { Shape = Shape; Value = ValueOf; Fits = FitsOf; text = value_text; read = value_at }
 
 -- a field of this name and shape
 abbrev pub field : List ℕ → Shape → Field kit

@@ -6,7 +6,7 @@ ghost use Rattle.nc_grammar.specs.Gives.{Gives};
 ghost use Rattle.nc_grammar.specs.Label.{word_at};
 ghost use Rattle.nc_grammar.specs.Rows.{nth_at, words_of};
 ghost use Rattle.nc_grammar.specs.Whole.{IsLine};
-ghost use Rattle.nc_journal_read.specs.Fit.{Fits};
+ghost use Rattle.nc_journal_read.specs.Fit.{EventFits};
 ghost use Rattle.nc_journal.specs.Line.{line as line_text};
 ghost use Rattle.nc_journal_read.specs.BadLine.{IsBadLine};
 ghost use Rattle.nc_journal_read.specs.EventTable.{parts, clock_row, event_rows, event_at};
@@ -106,7 +106,7 @@ fn event(alloc: Global, reader: &mut Reader<'_>) -> Result<Event, Fault>
 /// `Bad` comes exactly where no event has it.
 pub fn event_of(alloc: Global, line: &[u8]) -> Result<Event, Unread>
     // What is read has this line.
-    ensures found { IfOk result (λ e. IsLine Fits line_text e line.now) }
+    ensures found { IfOk result (λ e. IsLine EventFits line_text e line.now) }
     // Else no event has it, and the place is the length of its longest prefix that begins some event's line.
     ensures bad { IfErr result (λ fault. IsBadLine line.now fault) }
 {
@@ -117,5 +117,5 @@ pub fn event_of(alloc: Global, line: &[u8]) -> Result<Event, Unread>
 
 /// No two events have the same line.
 pub fn one_line()
-    ensures { (a b : EventOf) → Fits a → Fits b → line_text a ≡ line_text b → a ≡ b }
+    ensures { (a b : EventOf) → EventFits a → EventFits b → line_text a ≡ line_text b → a ≡ b }
 {}

@@ -2,7 +2,7 @@
 ghost use Rattle.std.specs.Prelude.{◌≡◌};
 ghost use Rattle.nc_grammar.specs.Gives.{Gives};
 ghost use Rattle.nc_grammar.specs.Rows.{row_at};
-ghost use Rattle.nc_journal_read.specs.EventTable.{parts, place_at, content_at, stored_of, stored_row};
+ghost use Rattle.nc_journal_read.specs.EventTable.{parts, front_at, content_at, stored_of, stored_row};
 
 use crate::field_reading::{id, name, number, optional_text, text, truth};
 use nc_grammar::{Fault, Reader};
@@ -12,7 +12,7 @@ use std::alloc::Global;
 
 /// Where a stored message lies, and until when.
 #[derive(Drop)]
-struct StoredPlace {
+struct StoredFront {
     w: u64,
     c: ChanName,
     id: MsgId,
@@ -32,8 +32,8 @@ struct StoredContent {
     body: Bytes,
 }
 
-fn place(alloc: Global, reader: &mut Reader<'_>) -> Result<StoredPlace, Fault>
-    ensures { Gives reader.new result (place_at reader.old) }
+fn front(alloc: Global, reader: &mut Reader<'_>) -> Result<StoredFront, Fault>
+    ensures { Gives reader.new result (front_at reader.old) }
 {
     let w = number(reader, b" w=")?;
     let c = name(alloc, reader, b" c=")?;
@@ -41,7 +41,7 @@ fn place(alloc: Global, reader: &mut Reader<'_>) -> Result<StoredPlace, Fault>
     let slot = number(reader, b" slot=")?;
     let len = number(reader, b" len=")?;
     let exp = number(reader, b" exp=")?;
-    Ok(StoredPlace {
+    Ok(StoredFront {
         w,
         c,
         id,
@@ -70,17 +70,17 @@ fn content(alloc: Global, reader: &mut Reader<'_>) -> Result<StoredContent, Faul
     })
 }
 
-/// The event of a message that is at a place.
-fn event_of_parts(place: StoredPlace, content: StoredContent) -> Event
-    ensures { result ≡ stored_of place content }
+/// The event of both.
+fn event_of_parts(front: StoredFront, content: StoredContent) -> Event
+    ensures { result ≡ stored_of front content }
 {
     Event::Stored {
-        w: place.w,
-        c: place.c,
-        id: place.id,
-        slot: place.slot,
-        len: place.len,
-        exp: place.exp,
+        w: front.w,
+        c: front.c,
+        id: front.id,
+        slot: front.slot,
+        len: front.len,
+        exp: front.exp,
         kept: content.kept,
         members: content.members,
         from: content.from,
@@ -93,7 +93,7 @@ fn event_of_parts(place: StoredPlace, content: StoredContent) -> Event
 pub(crate) fn stored(alloc: Global, reader: &mut Reader<'_>) -> Result<Event, Fault>
     ensures { Gives reader.new result (row_at parts stored_row reader.old) }
 {
-    let place = place(alloc, reader)?;
+    let front = front(alloc, reader)?;
     let content = content(alloc, reader)?;
-    Ok(event_of_parts(place, content))
+    Ok(event_of_parts(front, content))
 }

@@ -12,6 +12,8 @@ mod part;
 mod place;
 mod read;
 mod split;
+#[cfg(test)]
+mod tests;
 mod word;
 
 pub use fault::LineFault;
