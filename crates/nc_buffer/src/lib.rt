@@ -8,8 +8,6 @@
 mod buffer;
 mod entry;
 pub mod laws;
-#[cfg(test)]
-mod tests;
 
 pub use buffer::Buffer;
 pub use entry::{Entry, MOST_GRANTS};

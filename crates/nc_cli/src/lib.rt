@@ -7,9 +7,6 @@
 ghost use Rattle.std.specs.Prelude.{◌≡◌, ◌↔◌, ◌∷◌, [], map, string_bytes, IsTrue};
 ghost use Rattle.nc_cli.specs.Words.{IsRead, OneCommand, usage_text};
 
-#[cfg(test)]
-mod tests;
-
 /// A command of the program.
 #[derive(Clone, Copy, Debug, PartialEq, Eq)]
 pub enum Command {

@@ -12,8 +12,6 @@ mod part;
 mod place;
 mod read;
 mod split;
-#[cfg(test)]
-mod tests;
 mod word;
 
 pub use fault::LineFault;

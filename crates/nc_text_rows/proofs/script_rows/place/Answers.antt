@@ -1,7 +1,7 @@
 use Rattle.std.proofs.Common.{subst}
 use Rattle.nc_script.specs.declared.line.Line.{Line}
 use Rattle.nc_script.specs.Line.{line}
-use Rattle.nc_script.proofs.tests.number_place.Goals as goal
+use Rattle.nc_text_rows.proofs.script_rows.place.Goals as goal
 
 pub place_of-requires-clause-poll : goal.place_of-requires-clause-poll
 place_of-requires-clause-poll c = record {
@@ -10,5 +10,5 @@ place_of-requires-clause-poll c = record {
   k = c.in-Ok-Poll.field-0-1;
   names = c.in-Ok-Poll.field-0-2;
   start = c.in-Ok-Poll.field-0-3;
-  says = subst (λ (l : Line). (line 1 c.args.text.now).Says l) c.in-Ok-Poll.field-0-is c.in-Ok-Poll.ensures;
+  says = subst (λ (l : Line). (line 1 c.as_bytes-text.result.now).Says l) c.in-Ok-Poll.field-0-is c.in-Ok-Poll.ensures;
 }
