@@ -6,8 +6,6 @@
 
 mod alert;
 mod packet;
-#[cfg(test)]
-mod tests;
 
 pub use alert::{Alert, Grant};
 pub use packet::{Outgoing, Packet};

@@ -10,8 +10,8 @@ use Rattle.nc_slots.specs.declared.slot.Slot.{Slot}
 use Rattle.nc_owner.specs.declared.channel.Channel.{Channel}
 use Rattle.nc_owner.specs.declared.desk.Desk.{Desk}
 use Rattle.nc_owner.specs.State.{Bench, OwnerAt, at, entries_of}
-use Rattle.nc_owner.specs.Line.{OutLine, out_line, out_lines}
-use Rattle.nc_owner.specs.Found.{seen_line}
+use Rattle.nc_owner.specs.AlertLines.{OutLine, out_line, out_lines}
+use Rattle.nc_owner.specs.TouchedLook.{seen_line}
 use Rattle.nc_owner.specs.Leave.{spent}
 use Rattle.nc_owner.specs.Look.{id_of, found_on, found_line}
 use Rattle.nc_owner.specs.Rules.{FindsFirst, founds_of, TellsFirst}

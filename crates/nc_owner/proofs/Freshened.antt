@@ -12,7 +12,7 @@ use Rattle.std.specs.Map.{lookup}
 use Rattle.nc_owner.specs.State.{Bench, OwnerAt, at, entries_of, found, is_name}
 use Rattle.nc_owner.specs.Leave.{stayers, touched, spent}
 use Rattle.nc_owner.specs.Look.{counted_at, found_on, found_desk}
-use Rattle.nc_owner.specs.Found.{seen}
+use Rattle.nc_owner.specs.TouchedLook.{seen}
 use Rattle.nc_owner.specs.Rules.{NoneExpired, IsFresh}
 use Rattle.nc_owner.proofs.Fresh.{stayers_fresh}
 

@@ -8,6 +8,8 @@ pub mod Posting
 pub mod Published
 pub mod Spending
 pub mod Looking
+pub mod Numbers
+pub mod Retiring
 pub mod PublishRules
 pub mod Freeing
 pub mod Rooms

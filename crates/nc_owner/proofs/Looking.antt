@@ -10,11 +10,11 @@ use Rattle.nc_slots.specs.Slots.{HoldAt}
 use Rattle.nc_owner.specs.declared.channel.Channel.{Channel}
 use Rattle.nc_owner.specs.declared.desk.Desk.{Desk}
 use Rattle.nc_owner.specs.State.{Bench, at}
-use Rattle.nc_owner.specs.Line.{OutLine}
+use Rattle.nc_owner.specs.AlertLines.{OutLine}
 use Rattle.nc_owner.specs.Leave.{spend_events, spent}
 use Rattle.nc_owner.specs.Look.{found_line, found_holds, answered, answered_events}
 use Rattle.nc_owner.specs.Pool.{SameOthers, except}
-use Rattle.nc_owner.specs.Found.{CarriesFound, CarriesSeen, seen, seen_events, seen_line, seen_holds}
+use Rattle.nc_owner.specs.TouchedLook.{CarriesFound, CarriesSeen, seen, seen_events, seen_line, seen_holds}
 
 -- what an answer says of a bench, by its owner's number
 pub record Answers {H : Type 0} (held : H → HoldAt) (exact : Bool) (me from number : ℕ) (c : List ℕ) (id : Id) (d : Desk) (slots1 slots2 : ℕ → List (Slot Message)) (ch : Channel) (events1 events2 : List Event) (line : OutLine) (out : Outgoing H) (d2 : Desk) (ch2 : Channel) (holds1 holds2 : ℕ → List ℕ) : Type 0 where

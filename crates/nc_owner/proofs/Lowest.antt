@@ -17,7 +17,7 @@ use Rattle.nc_owner.specs.Leave.{left_event, leavers, touch_events}
 use Rattle.nc_owner.specs.Poll.{freed_event, free_slots, freed_events}
 use Rattle.nc_owner.specs.State.{Bench, OwnerAt, bench_of}
 use Rattle.nc_owner.specs.Publish.{Polls, Outcome, late, full, stored, asked, cleared_events, granted_events, granted_slot, kept_row, leaving, lowest_slot, message_of, roomy, roomy_events, stamp, store_bench, store_events, stored_event, stored_events, told_row, post_bench, post_events, publish_events, publish_outcome, publish_cleared, publish_row, is_stored}
-use Rattle.nc_owner.specs.Posted.{HasRoom, TakesSlot}
+use Rattle.nc_owner.specs.PublishClauses.{HasRoom, TakesSlot}
 use Rattle.nc_owner.specs.Rules.{IsLowest, TakesLowest}
 
 used_below : (row : List (Slot Message)) (j : ℕ) → j < unwrap_or (first is_unused row) 0 → is_unused (slot_at row j) ≡ false

@@ -7,9 +7,9 @@ use Rattle.nc_journal.specs.declared.event.Event.{Event}
 use Rattle.nc_owner.specs.declared.order.Order.{Order}
 use Rattle.nc_owner.specs.declared.poll.PollAnswer.{PollAnswer}
 use Rattle.nc_owner.specs.Ascending.{ascending}
-use Rattle.nc_owner.specs.Line.{OutLine}
+use Rattle.nc_owner.specs.AlertLines.{OutLine}
 use Rattle.nc_owner.specs.Poll.{PollsOf, AnswersFit, told_answer}
-use Rattle.nc_owner.specs.Posted.{IsPosted, Posts, TakesSlot}
+use Rattle.nc_owner.specs.PublishClauses.{IsPosted, Posts, TakesSlot}
 use Rattle.nc_owner.specs.State.{Bench}
 use Rattle.nc_owner.specs.Publish.{Polls, Outcome, late, full, stored, outcome, outcome_by, usage_of, is_full, stamp, leaving, left_slots, slots_of, is_late, is_stored, post_events, post_alerts, post_bench, post_holds, answer, asked, store_events, store_alerts, store_bench, store_holds, roomy}
 use Rattle.nc_owner.proofs.Polls.{polls_told}

@@ -1,7 +1,7 @@
 -- How a publish is answered.
 use Rattle.std.proofs.Common.{◌≡◌, ◌↔◌, ◌⊎◌, inl, inr, cond, ℕ, ◌+◌, ◌<◌, ◌≤◌, Bool, true, false, List, [], ◌∷◌, ◌++◌, refl, sym, ap, ◌∙◌, subst, map, length, arith}
 use Rattle.std.proofs.lemmas.Bool.Decides.{nat_tests}
-use Rattle.std.specs.Prelude.{fold, nat_le, ◌==◌, not, if◌then◌else◌, slice_index}
+use Rattle.std.specs.Prelude.{fold, nat_le, ◌==◌, not, if◌then◌else◌, slice_index, unwrap_or}
 use Rattle.nc_types.specs.Id.{Id}
 use Rattle.nc_types.specs.Message.{Message}
 use Rattle.nc_types.specs.declared.info.FullLine.{FullLine}
@@ -11,14 +11,15 @@ use Rattle.nc_owner.specs.declared.channel.Channel.{Channel}
 use Rattle.nc_owner.specs.declared.member.Member.{Member}
 use Rattle.nc_owner.specs.declared.order.Order.{Order}
 use Rattle.nc_owner.specs.Leave.{touched}
-use Rattle.nc_owner.specs.Line.{OutLine}
+use Rattle.nc_owner.specs.AlertLines.{OutLine}
 use Rattle.nc_owner.specs.Poll.{told_answer, is_held, held_count}
 use Rattle.nc_owner.specs.State.{Bench, OwnerAt, opened, bench_of}
 use Rattle.nc_owner.specs.Publish.{Polls, Outcome, late, full, stored, outcome_by, usage_of, is_full, stamp, notices, post_alerts, stored_status, slots_of, leaving, publish_cleared, publish_outcome, publish_alerts, publish_row, PublishPolls}
-use Rattle.nc_owner.specs.Posted.{Publishes}
-use Rattle.nc_owner.specs.Rules.{Answered, answers_of, with_status, with_usage, usage_by, held_among, IsLateExactly, IsFullExactly, TellsMembers, FreesUnheld, TakesLowest}
+use Rattle.nc_owner.specs.PublishClauses.{Publishes}
+use Rattle.nc_owner.specs.Rules.{Answered, answers_of, with_status, with_usage, usage_by, held_among, FullExactly, IsAnswered, IsLateExactly, IsFullExactly, TellsMembers, FreesOnlyRetired, FreesUnheld, TakesLowest}
 use Rattle.nc_owner.proofs.Freeing.{publish_frees}
 use Rattle.nc_owner.proofs.Lowest.{publish_lowest}
+use Rattle.nc_owner.proofs.Retiring.{publish_retired}
 
 -- the answer by what the publish comes to
 abbrev pub answer_to : Outcome → Channel → List Answered
@@ -63,6 +64,24 @@ full_by : (no_slot : Bool) (usage : FullLine) (ch : Channel) (slots : ℕ) → i
     → (answer_to (outcome_by true no_slot usage) ch ≡ with_usage usage) ↔ (usage.buffered + usage.held ≡ slots)
 full_by true usage ch slots is = (λ _. grind (arith, nat_tests), λ _. refl)
 full_by false usage ch slots is = (λ h. let r = stored_between (length ch.members == 0) 507 (ap status_in h) in absurd (omega (arith, r.1)), λ e. absurd (grind (arith, nat_tests)))
+
+-- what is told to be in use, where it is told
+abbrev usage_in : FullLine → List Answered → FullLine
+usage_in other [] = other
+usage_in other (a ∷ rest) = unwrap_or a.usage other
+
+alone_by : (no_slot : Bool) (usage other : FullLine) (ch : Channel) → answer_to (outcome_by true no_slot usage) ch ≡ with_usage other → other ≡ usage
+alone_by true usage other ch is = sym (ap (usage_in usage) is)
+alone_by false usage other ch is = let r = stored_between (length ch.members == 0) 507 (ap status_in is) in absurd (omega (arith, r.1))
+
+four_by : (none : Bool) → IsAnswered (with_status (if none then 202 else 201))
+four_by true = inr (inl refl)
+four_by false = inl refl
+
+four : (x : Outcome) (ch : Channel) → IsAnswered (answer_to x ch)
+four late ch = inr (inr (inl refl))
+four (full usage) ch = inr (inr (inr (usage, refl)))
+four stored ch = four_by (length ch.members == 0)
 
 fits_time : (time : ℕ) → time ≤ 253402300799 → nat_le time 253402300799 ≡ true
 fits_time time le = grind (arith, nat_tests)
@@ -124,7 +143,13 @@ module _ (from : ℕ) (o : Order) (polls : Polls) (row : List (Slot Message)) (s
       let fits : answers_of lines ≡ answer_to (outcome_by true (is_full b.desk.slots usage) usage) (opened o.chan s) =
       answered ∙ ap (λ t. answer_to (outcome_by t (is_full b.desk.slots usage) usage) (opened o.chan s)) (fits_time (stamp b).time le) in
       let r = full_by (is_full b.desk.slots usage) usage (opened o.chan s) b.desk.slots refl in
-      subst (λ (u : FullLine). (answers_of lines ≡ with_usage u) ↔ (u.buffered + u.held ≡ s.desk.slots)) same (λ h. r.0 (sym fits ∙ h), λ e. fits ∙ r.1 e)
+      subst (λ (u : FullLine). FullExactly s.desk.slots u (answers_of lines)) same (record {
+        exactly = (λ h. r.0 (sym fits ∙ h), λ e. fits ∙ r.1 e);
+        alone = λ other h. alone_by (is_full b.desk.slots usage) usage other (opened o.chan s) (sym fits ∙ h);
+      })
+
+  pub is_answered : IsAnswered (answers_of lines)
+  is_answered = subst IsAnswered (sym answered) (four (publish_outcome o polls row s) (opened o.chan s))
 
   pub tells_members : TellsMembers o s lines
   tells_members = record {
@@ -142,6 +167,12 @@ module _ (exact : Bool) (from : ℕ) (o : Order) (row : List (Slot Message)) (s 
 
   pub members_rule : TellsMembers o s lines
   members_rule = tells_members from o q.0 row s lines q.2.said
+
+  pub answered_rule : IsAnswered (answers_of lines)
+  answered_rule = is_answered from o q.0 row s lines q.2.said
+
+  pub retired_rule : FreesOnlyRetired s.desk.retired events
+  retired_rule = subst (λ (es : List Event). FreesOnlyRetired s.desk.retired es) (sym q.2.happened) (publish_retired exact from o q.0 row s counts q.1)
 
   pub freed_rule : exact ≡ true → FreesUnheld counts events
   freed_rule h = subst (λ (es : List Event). FreesUnheld counts es) (sym q.2.happened) (publish_frees from o q.0 row s counts (subst (λ (e : Bool). PublishPolls e counts o row s q.0) h q.1))

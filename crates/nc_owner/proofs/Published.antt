@@ -12,9 +12,9 @@ use Rattle.nc_owner.specs.declared.order.Order.{Order}
 use Rattle.nc_owner.specs.declared.poll.PollAnswer.{PollAnswer}
 use Rattle.nc_owner.specs.Holds.{AllCarry}
 use Rattle.nc_owner.specs.Leave.{touched}
-use Rattle.nc_owner.specs.Line.{OutLine}
+use Rattle.nc_owner.specs.AlertLines.{OutLine}
 use Rattle.nc_owner.specs.Poll.{PollsOf, AnswersFit}
-use Rattle.nc_owner.specs.Posted.{IsPosted, Posts, Publishes}
+use Rattle.nc_owner.specs.PublishClauses.{IsPosted, Posts, Publishes}
 use Rattle.nc_owner.specs.Rules.{NoneExpired, IsFresh}
 use Rattle.nc_owner.specs.State.{Bench, OwnerAt, at, entries_of, found, opened, exists, others, put_back, bench_of}
 use Rattle.nc_owner.specs.Publish.{LeavingPolls, cleared, cleared_events, is_stored, post_events, post_holds, publish_outcome, publish_bench, publish_cleared, message_of, outcome, stamp}

@@ -14,9 +14,9 @@ use Rattle.nc_owner.specs.declared.desk.Desk.{Desk}
 use Rattle.nc_owner.specs.declared.order.Order.{Order}
 use Rattle.nc_owner.specs.declared.poll.PollAnswer.{PollAnswer}
 use Rattle.nc_owner.specs.Holds.{Carries, AllCarry}
-use Rattle.nc_owner.specs.Line.{OutLine, out_lines}
+use Rattle.nc_owner.specs.AlertLines.{OutLine, out_lines}
 use Rattle.nc_owner.specs.Pool.{except, SameOthers}
-use Rattle.nc_owner.specs.Posted.{IsStored}
+use Rattle.nc_owner.specs.PublishClauses.{IsStored}
 use Rattle.nc_owner.specs.State.{Bench, at}
 use Rattle.nc_owner.specs.Publish.{roomy, roomy_events, stored_events, stored_bench, notices, lowest_slot, stamp, answer, stored_status, info_of, message_of, one_hold}
 use Rattle.nc_owner.proofs.Carried.{all_carry-push}

@@ -13,7 +13,7 @@ use Rattle.nc_slots.specs.declared.slot.Slot.{Slot}
 use Rattle.nc_owner.specs.declared.desk.Desk.{Desk}
 use Rattle.nc_owner.specs.Ascending.{with_new_number}
 use Rattle.nc_owner.specs.State.{OwnerAt, Bench, entries_of, with_entries, bench_of, after}
-use Rattle.nc_owner.specs.Line.{OutLine}
+use Rattle.nc_owner.specs.AlertLines.{OutLine}
 use Rattle.nc_owner.specs.Leave.{touch_events, touched, spend_events, spent}
 use Rattle.nc_owner.specs.Publish.{granted_slot, one_hold}
 

@@ -18,7 +18,7 @@ use Rattle.nc_owner.specs.declared.poll.PollAnswer.{PollAnswer}
 use Rattle.nc_owner.specs.declared.order.Order.{Order}
 use Rattle.nc_owner.specs.Ascending.{ascending, with_number}
 use Rattle.nc_owner.specs.State.{OwnerAt, Bench, entries_of, with_entries, exists, bench_of, after}
-use Rattle.nc_owner.specs.Line.{OutLine}
+use Rattle.nc_owner.specs.AlertLines.{OutLine}
 use Rattle.nc_owner.specs.Leave.{left_event, left_by, left_row, touch_events, touched}
 use Rattle.nc_owner.specs.Poll.{PollsOf, AnswersFit, polled_all, freed_events, polled_desk, freed_desk, held_count}
 

@@ -1,11 +1,11 @@
 -- The owner's rules in their own words: what each says of a call's events, its answer, and the owner and its slots.
-use Rattle.std.specs.Prelude.{◌≡◌, ◌↔◌, ℕ, ◌+◌, ◌-◌, ◌<◌, ◌≤◌, false, true, List, [], ◌∷◌, ◌++◌, Option, None, Some, length, slice_index, ◌==◌, not, MatchOption}
+use Rattle.std.specs.Prelude.{◌≡◌, ◌↔◌, ◌⊎◌, ℕ, ◌+◌, ◌-◌, ◌<◌, ◌≤◌, false, true, List, [], ◌∷◌, ◌++◌, Option, None, Some, length, slice_index, ◌==◌, not, MatchOption}
 use Rattle.std.specs.List.{AllByRecursion, count_by}
 use Rattle.nc_types.specs.Id.{Id, is_past}
 use Rattle.nc_types.specs.Message.{Message}
 use Rattle.nc_types.specs.declared.info.FullLine.{FullLine}
 use Rattle.nc_journal.specs.declared.event.Event.{Event}
-use Rattle.nc_journal.specs.declared.event.Event.TheVariants.{Stored, Freed}
+use Rattle.nc_journal.specs.declared.event.Event.TheVariants.{Stored, Left, Freed}
 use Rattle.nc_journal.specs.declared.alert.AlertLine.{AlertLine}
 use Rattle.nc_journal.specs.declared.alert.AlertLine.TheVariants.{PubAnswer, LookAnswer}
 use Rattle.nc_buffer.specs.declared.entry.Entry.{Entry}
@@ -13,8 +13,9 @@ use Rattle.nc_buffer.specs.Buffer.{is_expired}
 use Rattle.nc_slots.specs.declared.slot.Slot.{Slot}
 use Rattle.nc_slots.specs.Slot.{slot_at, is_unused}
 use Rattle.nc_owner.specs.declared.order.Order.{Order}
+use Rattle.nc_owner.specs.Ascending.{has_number}
 use Rattle.nc_owner.specs.State.{OwnerAt, Bench, entries_of, found, opened, bench_of}
-use Rattle.nc_owner.specs.Line.{OutLine}
+use Rattle.nc_owner.specs.AlertLines.{OutLine}
 use Rattle.nc_owner.specs.Leave.{touched, spent}
 use Rattle.nc_owner.specs.Publish.{stamp, leaving, slots_of}
 
@@ -57,12 +58,18 @@ usage_by counts o b = record {
   held = held_among counts b.desk.retired + held_among counts (slots_of (leaving o.length b));
 }
 
--- where there is time left, the answer is 507 with both numbers exactly where together they are all slots
+-- 507 is answered exactly where both numbers together are all slots, and with no other numbers
+pub record FullExactly (slots : ℕ) (usage : FullLine) (answers : List Answered) : Type 0 where
+  pub exactly : (answers ≡ with_usage usage) ↔ (usage.buffered + usage.held ≡ slots)
+  pub alone : (other : FullLine) → answers ≡ with_usage other → other ≡ usage
+
+-- it is so of a publish where there is time left
 abbrev pub IsFullExactly : List ℕ → Order → List (Slot Message) → OwnerAt → List OutLine → Type 0
-IsFullExactly counts o row s lines =
-    (stamp (bench_of o.chan row s)).time ≤ 253402300799 →
-    let usage = usage_by counts o (ready o row s) in
-    (answers_of lines ≡ with_usage usage) ↔ (usage.buffered + usage.held ≡ s.desk.slots)
+IsFullExactly counts o row s lines = (stamp (bench_of o.chan row s)).time ≤ 253402300799 → FullExactly s.desk.slots (usage_by counts o (ready o row s)) (answers_of lines)
+
+-- a publish is answered once, by one of four statuses, and only 507 tells what is in use
+abbrev pub IsAnswered : List Answered → Type 0
+IsAnswered answers = (answers ≡ with_status 201) ⊎ (answers ≡ with_status 202) ⊎ (answers ≡ with_status 503) ⊎ ((usage : FullLine) × (answers ≡ with_usage usage))
 
 -- a stored message has taken a slot of the row, below which none is unused
 abbrev pub IsLowest : List (Slot Message) → Event → Type 0
@@ -79,6 +86,13 @@ IsUnheld counts _ = Unit {0}
 
 abbrev pub FreesUnheld : List ℕ → List Event → Type 0
 FreesUnheld counts events = AllByRecursion (IsUnheld counts) events
+
+-- a freed slot was retired: it is one of these slots, or a message left it before
+abbrev pub FreesOnlyRetired : List ℕ → List Event → Type 0
+FreesOnlyRetired retired [] = Unit {0}
+FreesOnlyRetired retired (Left w c id slot cause ∷ events) = FreesOnlyRetired (slot ∷ retired) events
+FreesOnlyRetired retired (Freed w slot ∷ events) = (has_number slot retired ≡ true) × FreesOnlyRetired retired events
+FreesOnlyRetired retired (_ ∷ events) = FreesOnlyRetired retired events
 
 -- an answer of 201 comes only where the channel has a member, and 202 only where it has none
 pub record TellsMembers (o : Order) (s : OwnerAt) (lines : List OutLine) : Type 0 where

@@ -1,5 +1,5 @@
 //! What is kept of the messages of one channel: the buffered ones and the last id.
-ghost use Rattle.std.specs.Prelude.{◌≡◌, ◌<◌, ◌++◌, ◌∷◌, [], length, find, IfSome, OnOk, Some};
+ghost use Rattle.std.specs.Prelude.{◌≡◌, ◌<◌, ◌++◌, ◌∷◌, [], length, find, IfSome, OnErr, OnOk, Some};
 ghost use Rattle.std.specs.List.{slice_get};
 ghost use Rattle.nc_types.specs.Id.{IsPast};
 ghost use Rattle.nc_buffer.specs.Buffer.{LosesTaken, is_expired, is_spent, first_past, without_first, oldest, without_oldest, with_grant};
@@ -103,10 +103,11 @@ impl Backlog {
         self.buffer.drop_oldest()
     }
 
-    /// Puts an entry behind the others. Its id is the last one from then on.
+    /// Puts an entry behind the others. Its id is the last one from then on. Without memory nothing changes.
     pub fn store(&mut self, entry: Entry) -> Result<(), NoMemory>
         requires { IsPast entry.id self.old.last }
-        ensures { OnOk result (self.new ≡ record { last = entry.id; entries = self.old.entries ++ entry ∷ [] }) }
+        ensures err { OnErr result (self.new ≡ self.old) }
+        ensures ok { OnOk result (self.new ≡ record { last = entry.id; entries = self.old.entries ++ entry ∷ [] }) }
     {
         let id = entry.id;
         self.buffer.store(entry)?;

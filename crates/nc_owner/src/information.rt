@@ -1,8 +1,8 @@
 //! What is told of a channel.
 ghost use Rattle.std.specs.Prelude.{◌≡◌, IfOk, OnOk, true, Some, None, if◌then◌else◌};
 ghost use Rattle.nc_journal.specs.declared.alert.AlertLine.TheVariants.{InfoAnswer};
-ghost use Rattle.nc_owner.specs.Calls.{info_alerts, touch_after, touch_events_of, touched_row};
-ghost use Rattle.nc_owner.specs.Line.{alert_line, out_lines};
+ghost use Rattle.nc_owner.specs.OtherSteps.{info_alerts, touch_after, touch_events_of, touched_row};
+ghost use Rattle.nc_owner.specs.AlertLines.{alert_line, out_lines};
 ghost use Rattle.nc_owner.specs.Pool.{SameOthers};
 ghost use Rattle.nc_owner.specs.Publish.{info_of};
 ghost use Rattle.nc_owner.specs.Rules.{IsFresh};

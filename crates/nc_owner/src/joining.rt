@@ -1,7 +1,7 @@
 //! Joins and parts: who is a member of a channel.
 ghost use Rattle.std.specs.Prelude.{◌≡◌, ◌++◌, [], IfOk, OnOk, true};
-ghost use Rattle.nc_owner.specs.Calls.{join_events, join_after, part_events, part_after, parted_events, touched_row};
-ghost use Rattle.nc_owner.specs.Line.{out_lines};
+ghost use Rattle.nc_owner.specs.OtherSteps.{join_events, join_after, part_events, part_after, parted_events, touched_row};
+ghost use Rattle.nc_owner.specs.AlertLines.{out_lines};
 ghost use Rattle.nc_owner.specs.Pool.{SameOthers};
 ghost use Rattle.nc_owner.specs.Rules.{IsFresh};
 

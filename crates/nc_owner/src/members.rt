@@ -1,5 +1,5 @@
 //! The members of a channel.
-ghost use Rattle.std.specs.Prelude.{◌≡◌, [], length, IfOk, OnOk};
+ghost use Rattle.std.specs.Prelude.{◌≡◌, [], length, OnErr, OnOk};
 ghost use Rattle.nc_owner.specs.Members.{has_member, with_member, without_member};
 
 use crate::member::Member;
@@ -49,9 +49,10 @@ impl Members {
         self.set.contains(member)
     }
 
-    /// A subscriber becomes a member, if it is none yet.
+    /// A subscriber becomes a member, if it is none yet. Without memory nothing changes.
     pub fn insert(&mut self, member: Member) -> Result<(), NoMemory>
-        ensures { OnOk result (self.new ≡ with_member member self.old) }
+        ensures err { OnErr result (self.new ≡ self.old) }
+        ensures ok { OnOk result (self.new ≡ with_member member self.old) }
     {
         self.set.insert(member)?;
         Ok(())

@@ -4,7 +4,7 @@ ghost use Rattle.nc_types.specs.Message.{Message, IsContentType};
 ghost use Rattle.nc_slots.specs.Slot.{slot_at, filled, lowest_unused, message_of as message_in};
 ghost use Rattle.nc_journal.specs.Stamp.{expiry};
 ghost use Rattle.nc_owner.specs.Holds.{AllCarry};
-ghost use Rattle.nc_owner.specs.Line.{out_lines};
+ghost use Rattle.nc_owner.specs.AlertLines.{out_lines};
 ghost use Rattle.nc_owner.specs.Pool.{SameOthers};
 ghost use Rattle.nc_owner.specs.Publish.{message_of, stored_event, lowest_slot, granted_slot, granted_desk, granted_events, notices, one_hold};
 

@@ -2,7 +2,7 @@
 ghost use Rattle.std.specs.Prelude.{◌≡◌, ◌<◌, ◌≤◌, IfOk};
 ghost use Rattle.nc_owner.specs.State.{new_owner};
 ghost use Rattle.nc_owner.specs.Moment.{IsClock};
-ghost use Rattle.nc_owner.specs.Calls.{with_clock, names_of};
+ghost use Rattle.nc_owner.specs.OtherSteps.{with_clock, names_of};
 
 use crate::channel::Channel;
 use crate::desk::Desk;

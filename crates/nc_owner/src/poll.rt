@@ -11,7 +11,7 @@ use nc_types::{List, NoMemory};
 use std::alloc::Global;
 
 /// What a poll of a slot found: whether somebody holds it.
-#[derive(Clone, Copy, Debug, PartialEq, Eq)]
+#[derive(Clone, Copy)]
 pub struct PollAnswer {
     pub slot: u32,
     pub held: bool,

@@ -2,11 +2,11 @@
 ghost use Rattle.std.specs.Prelude.{◌≡◌, ◌≤◌, IfOk, OnOk, true};
 ghost use Rattle.nc_types.specs.Message.{IsContentType};
 ghost use Rattle.nc_owner.specs.Holds.{AllCarry};
-ghost use Rattle.nc_owner.specs.Line.{out_lines};
+ghost use Rattle.nc_owner.specs.AlertLines.{out_lines};
 ghost use Rattle.nc_owner.specs.Pool.{SameOthers};
-ghost use Rattle.nc_owner.specs.Posted.{Publishes};
+ghost use Rattle.nc_owner.specs.PublishClauses.{Publishes};
 ghost use Rattle.nc_owner.specs.Publish.{message_of, stamp};
-ghost use Rattle.nc_owner.specs.Rules.{IsLateExactly, IsFullExactly, TellsMembers, FreesUnheld, TakesLowest, IsFresh};
+ghost use Rattle.nc_owner.specs.Rules.{IsAnswered, IsLateExactly, IsFullExactly, TellsMembers, FreesOnlyRetired, FreesUnheld, TakesLowest, IsFresh, answers_of};
 ghost use Rattle.nc_owner.specs.State.{bench_of};
 
 use crate::done::Done;
@@ -35,10 +35,12 @@ impl Owner {
         ensures other_holds { OnOk result (P.exact ≡ true → SameOthers self.old.desk.me (P.holds pool.old) (P.holds pool.new)) }
 
         // The owner's rules in their own words.
+        ensures answered { IfOk result (λ done. IsAnswered (answers_of (out_lines done.alerts))) }
         ensures late { IfOk result (λ done. IsLateExactly order (P.slots pool.old self.old.desk.me) self.old (out_lines done.alerts)) }
         ensures full { IfOk result (λ done. P.exact ≡ true → IsFullExactly (P.holds pool.old self.old.desk.me) order (P.slots pool.old self.old.desk.me) self.old (out_lines done.alerts)) }
         ensures members { IfOk result (λ done. TellsMembers order self.old (out_lines done.alerts)) }
         ensures lowest { IfOk result (λ done. TakesLowest (P.slots pool.new self.old.desk.me) done.events.events) }
+        ensures retired { IfOk result (λ done. FreesOnlyRetired self.old.desk.retired done.events.events) }
         ensures fresh { OnOk result (IsFresh order.chan self.new) }
         ensures freed { IfOk result (λ done. P.exact ≡ true → FreesUnheld (P.holds pool.old self.old.desk.me) done.events.events) }
     {

@@ -2,7 +2,7 @@
 ghost use Rattle.std.specs.Prelude.{◌≡◌, ◌++◌, OnOk, IfOk, None, Some, if◌then◌else◌, is_some, unwrap_or, true};
 ghost use Rattle.std.specs.Map.{lookup};
 ghost use Rattle.nc_owner.specs.State.{at, is_name, new_channel, others, put_back, exists};
-ghost use Rattle.nc_owner.specs.Calls.{touched_of, touch_events_of};
+ghost use Rattle.nc_owner.specs.OtherSteps.{touched_of, touch_events_of};
 ghost use Rattle.nc_owner.specs.Pool.{SameOthers};
 ghost use Rattle.nc_owner.specs.Rules.{IsFresh, NoneExpired};
 

@@ -1,15 +1,15 @@
 //! A message is stored, and those who wait for it are told.
-ghost use Rattle.std.specs.Prelude.{◌≡◌, ◌<◌, ◌≤◌, ◌∷◌, ◌++◌, [], IfOk, OnOk, true, fold, map, length, Some};
+ghost use Rattle.std.specs.Prelude.{◌≡◌, ◌<◌, ◌≤◌, ◌∷◌, ◌++◌, [], IfOk, OnOk, true, fold, map, length, max, Some};
 ghost use Rattle.nc_types.specs.Id.{IsPast};
 ghost use Rattle.nc_types.specs.Message.{IsContentType};
 ghost use Rattle.nc_journal.specs.Stamp.{expiry};
 ghost use Rattle.nc_slots.specs.Slot.{lowest_unused};
 ghost use Rattle.nc_owner.specs.Ascending.{ascending};
 ghost use Rattle.nc_owner.specs.Holds.{AllCarry};
-ghost use Rattle.nc_owner.specs.Line.{out_lines};
+ghost use Rattle.nc_owner.specs.AlertLines.{out_lines};
 ghost use Rattle.nc_owner.specs.Poll.{AnswersFit, slot_of, told_answer};
 ghost use Rattle.nc_owner.specs.Pool.{SameOthers};
-ghost use Rattle.nc_owner.specs.Posted.{IsStored};
+ghost use Rattle.nc_owner.specs.PublishClauses.{IsStored};
 ghost use Rattle.nc_owner.specs.Publish.{kept_backlog, kept_desk, kept_row, leaving, left_slots, lowest_slot, message_of, notices, one_hold, slots_of, stamp, stored_bench, stored_events};
 ghost use Rattle.nc_owner.specs.State.{at};
 
@@ -85,6 +85,16 @@ fn keep_or_retire<P: Slots>(
     }
 }
 
+/// The floor is at least the message's time, the message is the channel's last, and nobody is marked any more.
+fn conclude(alloc: Global, desk: &mut Desk, channel: &mut Channel, id: MsgId)
+    ensures desk { desk.new ≡ record desk.old { floor = max desk.old.floor id.time } }
+    ensures channel { channel.new ≡ record channel.old { latest = Some id; marks = [] } }
+{
+    desk.floor = desk.floor.max(id.time);
+    channel.latest = Some(id);
+    channel.marks = List::new(alloc);
+}
+
 /// The message takes a slot, and the marked workers are told of it.
 fn store_message<P: Slots>(
     alloc: Global,
@@ -115,9 +125,7 @@ fn store_message<P: Slots>(
     let news = put_message(desk, pool, from, order, id, expires, members, events)?;
     notify(desk, pool, &news, channel.marks.as_slice(), events, alerts)?;
     keep_or_retire(alloc, desk, pool, is_kept, &news, channel)?;
-    desk.floor = desk.floor.max(id.time);
-    channel.latest = Some(id);
-    channel.marks = List::new(alloc);
+    conclude(alloc, desk, channel, id);
     Ok(())
 }
 

@@ -1,10 +1,10 @@
 //! What an owner does without being asked: channels are touched, and retired slots are polled.
 ghost use Rattle.std.specs.Prelude.{◌≡◌, [], IfOk, OnOk, true, List as Items};
 ghost use Rattle.nc_owner.specs.declared.poll.PollAnswer.{PollAnswer as AnswerAt};
-ghost use Rattle.nc_owner.specs.Calls.{touch_after, touch_events_of, touched_row};
-ghost use Rattle.nc_owner.specs.Line.{out_lines};
+ghost use Rattle.nc_owner.specs.OtherSteps.{touch_after, touch_events_of, touched_row};
+ghost use Rattle.nc_owner.specs.AlertLines.{out_lines};
 ghost use Rattle.nc_owner.specs.Pool.{SameOthers};
-ghost use Rattle.nc_owner.specs.Rules.{FreesUnheld, IsFresh};
+ghost use Rattle.nc_owner.specs.Rules.{FreesOnlyRetired, FreesUnheld, IsFresh};
 ghost use Rattle.nc_owner.specs.Sweep.{IsPolled};
 
 use crate::done::Done;
@@ -44,6 +44,7 @@ impl Owner {
         ensures polled { IfOk result (λ list. (answers : Items AnswerAt) × IsPolled P.exact (P.holds pool.old self.old.desk.me) answers (P.slots pool.old self.old.desk.me) self.old list.events (P.slots pool.new self.old.desk.me) self.new) }
         ensures others { OnOk result (SameOthers self.old.desk.me (P.slots pool.old) (P.slots pool.new)) }
         ensures holds { OnOk result (P.exact ≡ true → P.holds pool.new ≡ P.holds pool.old) }
+        ensures retired { IfOk result (λ list. FreesOnlyRetired self.old.desk.retired list.events) }
         ensures freed { IfOk result (λ list. P.exact ≡ true → FreesUnheld (P.holds pool.old self.old.desk.me) list.events) }
     {
         let mut events = List::new(self.alloc);

@@ -1,2 +1,3 @@
 pub mod Reaping
 pub mod Unheld
+pub mod Retired

@@ -6,8 +6,8 @@ use Rattle.nc_journal.specs.declared.event.Event.{Event}
 use Rattle.nc_slots.specs.declared.slot.Slot.{Slot}
 use Rattle.nc_owner.specs.declared.poll.PollAnswer.{PollAnswer}
 use Rattle.nc_owner.specs.State.{OwnerAt}
-use Rattle.nc_owner.specs.Poll.{PollsOf, told_answer, freed_events}
-use Rattle.nc_owner.specs.Calls.{polled_after, polled_row, names_of}
+use Rattle.nc_owner.specs.Poll.{PollsOf, AnswersFit, told_answer, freed_events}
+use Rattle.nc_owner.specs.OtherSteps.{polled_after, polled_row, names_of}
 use Rattle.nc_owner.specs.Sweep.{IsPolled}
 use Rattle.nc_reaper.specs.Reap.{Swept, state, swept, swept_all, IsReaped}
 
@@ -23,6 +23,7 @@ reaped_by exact s s1 s2 slots0 slots1 slots2 holds0 holds1 names events0 events1
     let w : state s1 (slots1 s.desk.me) events1 ≡ swept_all (slots0 s.desk.me) s = sweep ∙ (ap (λ (x : List Event). fold swept (state s (slots0 s.desk.me) x) names) empty ∙ ap (fold swept (state s (slots0 s.desk.me) [])) all) in
     record {
       polls = subst (λ (x : Swept). PollsOf exact (holds0 s.desk.me) x.owner.desk.retired answers) w (record { each = p.polls.each; told = λ x. subst (λ (f : ℕ → List ℕ). answers ≡ map (told_answer (f s.desk.me)) s1.desk.retired) (still x) (p.polls.told x) });
+      fit = subst (λ (x : Swept). AnswersFit x.row answers) w p.fit;
       happened = end ∙ (ap (λ (x : List Event). x ++ more) (ap (λ (x : Swept). x.events) w) ∙ ap (λ (x : List Event). (swept_all (slots0 s.desk.me) s).events ++ x) (p.happened ∙ ap (λ (k : ℕ). freed_events k answers) me));
       owner = p.owner ∙ ap (λ (x : Swept). polled_after answers x.owner) w;
       slots = p.slots ∙ ap (λ (x : Swept). polled_row answers x.row) w;

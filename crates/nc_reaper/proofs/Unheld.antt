@@ -10,7 +10,7 @@ use Rattle.nc_owner.specs.declared.poll.PollAnswer.{PollAnswer}
 use Rattle.nc_owner.specs.State.{OwnerAt, bench_of}
 use Rattle.nc_owner.specs.Leave.{leavers}
 use Rattle.nc_owner.specs.Poll.{PollsOf, freed_events}
-use Rattle.nc_owner.specs.Calls.{touch_events_of, names_of}
+use Rattle.nc_owner.specs.OtherSteps.{touch_events_of, names_of}
 use Rattle.nc_owner.specs.Rules.{IsUnheld, FreesUnheld}
 use Rattle.nc_owner.proofs.Freeing.{all_append, lefts_free, polls_free}
 use Rattle.nc_reaper.specs.Reap.{Swept, state, swept, swept_all, IsReaped}

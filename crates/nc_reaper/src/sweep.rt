@@ -2,7 +2,7 @@
 ghost use Rattle.std.specs.Prelude.{◌≡◌, ◌++◌, [], IfOk, OnOk, true, fold, List as Items};
 ghost use Rattle.nc_owner.specs.declared.poll.PollAnswer.{PollAnswer};
 ghost use Rattle.nc_owner.specs.Pool.{SameOthers};
-ghost use Rattle.nc_owner.specs.Rules.{FreesUnheld};
+ghost use Rattle.nc_owner.specs.Rules.{FreesOnlyRetired, FreesUnheld};
 ghost use Rattle.nc_reaper.specs.Reap.{state, swept, IsReaped};
 
 use nc_journal::{Event, EventList};
@@ -52,6 +52,7 @@ pub fn reap<P: Slots>(
     ensures alerts { IfOk result (λ done. done.alerts ≡ []) }
     ensures others { OnOk result (SameOthers owner.old.desk.me (P.slots pool.old) (P.slots pool.new)) }
     ensures holds { OnOk result (P.exact ≡ true → P.holds pool.new ≡ P.holds pool.old) }
+    ensures retired { IfOk result (λ done. FreesOnlyRetired owner.old.desk.retired done.events.events) }
     ensures freed { IfOk result (λ done. P.exact ≡ true → FreesUnheld (P.holds pool.old owner.old.desk.me) done.events.events) }
 {
     let names = owner.names()?;

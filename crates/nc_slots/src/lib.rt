@@ -10,8 +10,6 @@ mod plain;
 mod row;
 mod slot;
 mod slots;
-#[cfg(test)]
-mod tests;
 
 pub use plain::{PlainHold, PlainSlots};
 pub use row::SlotRow;

@@ -17,7 +17,7 @@ pub enum PutRefusal {
 }
 
 /// What a poll of a slot answers.
-#[derive(Clone, Copy, Debug, PartialEq, Eq)]
+#[derive(Clone, Copy)]
 pub enum Polled {
     /// Nobody holds the slot's message, and the slot is unused now.
     Freed,

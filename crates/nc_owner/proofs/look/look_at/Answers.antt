@@ -1,4 +1,4 @@
-use Rattle.nc_owner.specs.Line.{out_line}
+use Rattle.nc_owner.specs.AlertLines.{out_line}
 use Rattle.nc_owner.proofs.Looking.{sees}
 use Rattle.nc_owner.proofs.Freshened.{seen_fresh}
 use Rattle.nc_owner.proofs.look.look_at.Goals as goal

@@ -3,7 +3,7 @@ use Rattle.std.specs.Prelude.{fold}
 use Rattle.nc_types.specs.Message.{Message}
 use Rattle.nc_slots.specs.Slot.{slot_at, message_of}
 use Rattle.nc_owner.specs.Holds.{AllCarry}
-use Rattle.nc_owner.specs.Line.{out_lines}
+use Rattle.nc_owner.specs.AlertLines.{out_lines}
 use Rattle.nc_owner.specs.Pool.{SameOthers}
 use Rattle.nc_owner.specs.Publish.{granted_events, granted_slot, notices, one_hold}
 use Rattle.nc_owner.proofs.news.notify.Given as goal

@@ -2,7 +2,7 @@ use Rattle.std.proofs.Common.{ℕ, ◌∙◌, ap, sym, refl, List, true}
 use Rattle.nc_types.specs.Message.{Message}
 use Rattle.nc_alert.specs.declared.packet.Outgoing.{Outgoing}
 use Rattle.nc_slots.specs.declared.slot.Slot.{Slot}
-use Rattle.nc_owner.specs.Line.{out_lines}
+use Rattle.nc_owner.specs.AlertLines.{out_lines}
 use Rattle.nc_owner.specs.Pool.{except}
 use Rattle.nc_owner.specs.Publish.{store_holds}
 use Rattle.nc_owner.specs.State.{at}

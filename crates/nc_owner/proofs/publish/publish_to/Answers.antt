@@ -1,7 +1,7 @@
 use Rattle.std.proofs.Common.{ℕ, refl, ◌∙◌, ap, List}
 use Rattle.std.specs.Prelude.{Option, Some, if◌then◌else◌}
 use Rattle.nc_owner.specs.declared.channel.Channel.{Channel}
-use Rattle.nc_owner.specs.Line.{out_lines}
+use Rattle.nc_owner.specs.AlertLines.{out_lines}
 use Rattle.nc_owner.proofs.Published.{published_by, carried_by, fresh_by}
 use Rattle.nc_owner.proofs.publish.publish_to.Goals as goal
 

@@ -1,6 +1,7 @@
 use Rattle.std.proofs.Common.{◌∙◌}
 use Rattle.nc_reaper.proofs.Reaping.{reaped_by}
 use Rattle.nc_reaper.proofs.Unheld.{reap_frees}
+use Rattle.nc_reaper.proofs.Retired.{reap_retired}
 use Rattle.nc_reaper.proofs.sweep.reap.Goals as goal
 
 pub returns-clause-reaped : goal.returns-clause-reaped
@@ -14,3 +15,6 @@ returns-clause-reaped g c =
 
 pub returns-clause-freed : goal.returns-clause-freed
 returns-clause-freed g c = let r = returns-clause-reaped g c in reap_frees _ _ r.0 _ _ _ _ _ r.1
+
+pub returns-clause-retired : goal.returns-clause-retired
+returns-clause-retired g c = let r = returns-clause-reaped g c in reap_retired _ _ r.0 _ _ _ _ _ r.1

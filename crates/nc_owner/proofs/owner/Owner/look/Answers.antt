@@ -1,5 +1,5 @@
 use Rattle.std.proofs.Common.{refl}
-use Rattle.nc_owner.specs.Calls.{touched_of}
+use Rattle.nc_owner.specs.OtherSteps.{touched_of}
 use Rattle.nc_owner.proofs.Firsts.{look_tells}
 use Rattle.nc_owner.proofs.owner.Owner.look.Goals as goal
 

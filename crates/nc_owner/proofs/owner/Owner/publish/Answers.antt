@@ -1,11 +1,11 @@
 use Rattle.std.proofs.Common.{subst}
 use Rattle.nc_owner.specs.Holds.{AllCarry}
-use Rattle.nc_owner.specs.Line.{out_lines}
+use Rattle.nc_owner.specs.AlertLines.{out_lines}
 use Rattle.nc_owner.specs.Pool.{SameOthers}
-use Rattle.nc_owner.specs.Posted.{Publishes}
+use Rattle.nc_owner.specs.PublishClauses.{Publishes}
 use Rattle.nc_owner.specs.Publish.{message_of, stamp}
 use Rattle.nc_owner.specs.State.{OwnerAt, bench_of}
-use Rattle.nc_owner.proofs.PublishRules.{late_rule, full_rule, members_rule, freed_rule, lowest_rule}
+use Rattle.nc_owner.proofs.PublishRules.{answered_rule, late_rule, full_rule, members_rule, retired_rule, freed_rule, lowest_rule}
 use Rattle.nc_owner.proofs.owner.Owner.publish.Given.{Over}
 use Rattle.nc_owner.proofs.owner.Owner.publish.Goals as goal
 
@@ -27,6 +27,9 @@ returns-clause-others g c = (subst (λ (s : OwnerAt). SameOthers s.desk.me (g.P.
 pub returns-clause-other_holds : goal.returns-clause-other_holds
 returns-clause-other_holds g c = λ x. (subst (λ (s : OwnerAt). SameOthers s.desk.me (g.P.Slots.holds c.args.pool.now) (g.P.Slots.holds c.publish_to.new.pool)) c.self.view_is (c.in_ok-done.ensures.other_holds x))
 
+pub returns-clause-answered : goal.returns-clause-answered
+returns-clause-answered g c = answered_rule _ _ _ _ _ _ _ _ _ _ _ (published g c)
+
 pub returns-clause-late : goal.returns-clause-late
 returns-clause-late g c = late_rule _ _ _ _ _ _ _ _ _ _ _ (published g c)
 
@@ -35,6 +38,9 @@ returns-clause-full g c = full_rule _ _ _ _ _ _ _ _ _ _ _ (published g c)
 
 pub returns-clause-members : goal.returns-clause-members
 returns-clause-members g c = members_rule _ _ _ _ _ _ _ _ _ _ _ (published g c)
+
+pub returns-clause-retired : goal.returns-clause-retired
+returns-clause-retired g c = retired_rule _ _ _ _ _ _ _ _ _ _ _ (published g c)
 
 pub returns-clause-freed : goal.returns-clause-freed
 returns-clause-freed g c = freed_rule _ _ _ _ _ _ _ _ _ _ _ (published g c)

@@ -10,7 +10,7 @@ use Rattle.nc_owner.specs.declared.order.Order.{Order}
 use Rattle.nc_owner.specs.declared.poll.PollAnswer.{PollAnswer}
 use Rattle.nc_owner.specs.Holds.{AllCarry}
 use Rattle.nc_owner.specs.State.{OwnerAt, Bench}
-use Rattle.nc_owner.specs.Line.{OutLine, out_lines}
+use Rattle.nc_owner.specs.AlertLines.{OutLine, out_lines}
 use Rattle.nc_owner.specs.Pool.{SameOthers}
 use Rattle.nc_owner.specs.Publish.{store_events, store_alerts, store_bench, store_holds, message_of, stamp, Polls, LeavingPolls, PublishPolls, IsPublished, outcome, is_stored, post_events, post_alerts, post_bench, post_holds, publish_holds, asked, roomy, lowest_slot, publish_outcome, publish_cleared}
 

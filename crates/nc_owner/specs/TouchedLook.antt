@@ -9,7 +9,7 @@ use Rattle.nc_slots.specs.declared.slot.Slot.{Slot}
 use Rattle.nc_slots.specs.Slot.{slot_at, message_of}
 use Rattle.nc_slots.specs.Slots.{HoldAt}
 use Rattle.nc_owner.specs.State.{Bench}
-use Rattle.nc_owner.specs.Line.{OutLine}
+use Rattle.nc_owner.specs.AlertLines.{OutLine}
 use Rattle.nc_owner.specs.Leave.{spend_events, spent}
 use Rattle.nc_owner.specs.Look.{found_on, found_line, found_holds, answered, answered_events}
 use Rattle.nc_owner.specs.Holds.{Carries}

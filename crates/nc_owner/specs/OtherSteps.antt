@@ -1,4 +1,4 @@
--- What a join, a part, a question for information, a sweep, and polls between steps do.
+-- What the steps other than a publish and a look do: a join, a part, a question for information, a sweep, and polls between steps.
 use Rattle.std.specs.Prelude.{ℕ, true, List, [], ◌∷◌, ◌++◌, None, Some, if◌then◌else◌, map}
 use Rattle.nc_types.specs.Message.{Message}
 use Rattle.nc_journal.specs.declared.event.Event.{Event}
@@ -9,7 +9,7 @@ use Rattle.nc_owner.specs.declared.channel.Channel.{Channel}
 use Rattle.nc_owner.specs.declared.poll.PollAnswer.{PollAnswer}
 use Rattle.nc_owner.specs.declared.member.Member.{Member}
 use Rattle.nc_owner.specs.State.{OwnerAt, Bench, bench_of, exists, after}
-use Rattle.nc_owner.specs.Line.{OutLine}
+use Rattle.nc_owner.specs.AlertLines.{OutLine}
 use Rattle.nc_owner.specs.Leave.{touch_events, touched}
 use Rattle.nc_owner.specs.Members.{has_member, with_member, without_member}
 use Rattle.nc_owner.specs.Poll.{freed_events, polled_all, polled_desk}
