@@ -18,7 +18,7 @@ use Rattle.nc_owner.specs.declared.desk.Desk.{Desk}
 use Rattle.nc_owner.specs.State.{OwnerAt, Bench, entries_of, is_name, found, others, after}
 use Rattle.nc_owner_laws.specs.Used.{times}
 use Rattle.nc_owner_laws.specs.Kept.{slots_in}
-use Rattle.nc_owner_laws.specs.Told.{desk_with, channel_with, desk_of, channel_of, Tells}
+use Rattle.nc_owner_laws.specs.OwnerTold.{desk_with, channel_with, desk_of, channel_of, Tells}
 use Rattle.nc_owner_laws.proofs.Used.{times-append}
 use Rattle.nc_owner_laws.proofs.Leaving.{slots_append}
 use Rattle.nc_owner_laws.proofs.Shelf.{lookup_removed, lookup_inserted, lookup_other}

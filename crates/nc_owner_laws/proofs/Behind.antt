@@ -17,7 +17,7 @@ use Rattle.nc_journal.proofs.Rising.{ids-rise}
 use Rattle.nc_owner.specs.State.{found}
 use Rattle.nc_owner_laws.specs.Buffered.{entries_in}
 use Rattle.nc_owner_laws.specs.Wake.{Wake, NotYet, Waiting, ByNotice, ByGone, woken, wake}
-use Rattle.nc_owner_laws.specs.Standing.{look_past}
+use Rattle.nc_owner_laws.specs.OwnerStanding.{look_past}
 use Rattle.nc_owner_laws.specs.InOrder.{TellsThen, LooksAt}
 use Rattle.nc_owner_laws.specs.Behind.{NothingIsPast, LookPlace, IsFirstOf, NoticeIsFirst, ShowsLooks}
 use Rattle.nc_owner_laws.proofs.Owners.{to_entries}

@@ -21,7 +21,7 @@ use Rattle.nc_buffer.specs.declared.entry.Entry.{Entry}
 use Rattle.nc_owner.specs.declared.channel.Channel.{Channel}
 use Rattle.nc_owner.specs.State.{entries_of}
 use Rattle.nc_owner.specs.Publish.{kept_channel, kept_entries}
-use Rattle.nc_owner_laws.specs.Told.{desk_of, channel_of, made, with_look, with_grants, counted, left_channel, joined_channel, parted_channel, new_entry, without_id}
+use Rattle.nc_owner_laws.specs.OwnerTold.{desk_of, channel_of, made, with_look, with_grants, counted, left_channel, joined_channel, parted_channel, new_entry, without_id}
 use Rattle.nc_owner_laws.specs.Filters.{new_desk}
 use Rattle.nc_owner_laws.specs.Buffered.{Brief, brief_entry, brief_message, entries_in, LeavesStored, BufferLaw}
 use Rattle.nc_owner_laws.proofs.Events.{id_self}

@@ -7,7 +7,7 @@ use Rattle.nc_types.specs.Id.{Id}
 use Rattle.nc_types.specs.Channel.{name_eq}
 use Rattle.nc_journal.specs.History.{Along}
 use Rattle.nc_journal.specs.declared.event.Event.{Event}
-use Rattle.nc_journal.specs.declared.event.Event.TheVariants.{Stored, Looked, Granted, Removed, Made}
+use Rattle.nc_journal.specs.declared.event.Event.TheVariants.{Stored, Looked, Edged, Granted, Removed, Made}
 use Rattle.nc_journal.specs.declared.alert.AlertLine.TheVariants.{LookAnswer}
 use Rattle.nc_journal.proofs.Cuts.{all-weaker}
 use Rattle.nc_owner.specs.declared.desk.Desk.{Desk}
@@ -45,6 +45,7 @@ drawn_next n next ns e k = drawn_one n ns (subst (λ (x : ℕ). AreDrawn x ns) (
 looks_drawn : (first : ℕ) (h : List Event) → Along (DrawsNext first) h → AreDrawn (next_look first h) (look_numbers h)
 looks_drawn first [] d = record { below = tt; once = λ n. omega arith }
 looks_drawn first (Looked w q from number c after floor past ∷ h) d = drawn_next q (next_look first h) (look_numbers h) d.1 (looks_drawn first h d.0)
+looks_drawn first (Edged w q from number k c floor last ∷ h) d = drawn_next q (next_look first h) (look_numbers h) d.1 (looks_drawn first h d.0)
 looks_drawn first (e ∷ h) d = looks_drawn first h d.0
 
 grants_drawn : (first : ℕ) (h : List Event) → Along (DrawsNext first) h → AreDrawn (next_grant first h) (grant_numbers h)
@@ -57,6 +58,7 @@ grants_drawn first (e ∷ h) d = grants_drawn first h d.0
 only_none : (c : List ℕ) (q : ℕ) (h : List Event) → AllByRecursion (λ n. n < q) (look_numbers h) → IsOnlyAt c q h
 only_none c q [] a = tt
 only_none c q (Looked v p u number d after floor past ∷ h) a = ((λ e. absurd (omega (arith, a.0, e))), only_none c q h a.1)
+only_none c q (Edged w p from number k d floor last ∷ h) a = only_none c q h a.1
 only_none c q (e ∷ h) a = only_none c q h a
 
 -- what a look's event adds, where it is this look and where it is another
@@ -74,6 +76,7 @@ made_below : (first w : ℕ) (c : List ℕ) (q : ℕ) (h : List Event) → Along
 made_below first w c q [] a n = absurd (n refl)
 made_below first w c q (Looked v p u number d after floor None ∷ h) a n = below_case ((p == q) && ((u == w) && name_eq d c)) p q (next_look first h) (wake w c q h) (same_number p q u w d c) a.1 (made_below first w c q h a.0) n
 made_below first w c q (Looked v p u number d after floor (Some id) ∷ h) a n = omega (arith, made_below first w c q h a.0 n, a.1)
+made_below first w c q (Edged v p u number k d floor last ∷ h) a n = omega (arith, made_below first w c q h a.0 n, a.1)
 made_below first w c q (Stored v d id slot len exp kept members from r ct body ∷ h) a n = made_below first w c q h a.0 (wake_stored (name_eq d c) id (wake w c q h) n)
 made_below first w c q (Removed v d last cause ∷ h) a n = made_below first w c q h a.0 (wake_removed (name_eq d c) (wake w c q h) n)
 made_below first w c q (e ∷ h) a n = made_below first w c q h a.0 n
@@ -108,6 +111,7 @@ has_below : (v q u number floor : ℕ) (found : Option Id) (h : List Event) (nex
 has_below v q u number floor found [] next a k = absurd k
 has_below v q u number floor found (Looked w p from n c after f past ∷ h) next a (inl k) = subst (λ (x : ℕ). x < next) k.1 a.0
 has_below v q u number floor found (Looked w p from n c after f past ∷ h) next a (inr k) = has_below v q u number floor found h next a.1 k
+has_below v q u number floor found (Edged w p from n m c f last ∷ h) next a k = has_below v q u number floor found h next a.1 k
 has_below v q u number floor found (e ∷ h) next a k = has_below v q u number floor found h next a k
 
 has_later : (v q u number floor : ℕ) (found : Option Id) (newer older : List Event) → HasLook v q u number floor found older → HasLook v q u number floor found (newer ++ older)

@@ -22,7 +22,7 @@ use Rattle.nc_owner.specs.Poll.{slot_of, is_held, is_free, held_slots, free_slot
 use Rattle.nc_owner.specs.Publish.{granted_events}
 use Rattle.nc_owner_laws.specs.Used.{bit, times}
 use Rattle.nc_owner_laws.specs.Kept.{slots_in}
-use Rattle.nc_owner_laws.specs.Told.{desk_with, channel_with, without_id, counted, with_grants, left_channel, made}
+use Rattle.nc_owner_laws.specs.OwnerTold.{desk_with, channel_with, without_id, counted, with_grants, left_channel, made}
 use Rattle.nc_owner_laws.proofs.Used.{eqb_self, times_here}
 use Rattle.nc_owner_laws.proofs.Looking.{stands}
 use Rattle.nc_owner_laws.proofs.Gone.{without, Lacks, Apart, gone, front_gone}

@@ -14,7 +14,7 @@ use Rattle.nc_owner.specs.declared.member.Member.{Member}
 use Rattle.nc_owner.specs.Ascending.{has_number, with_new_number}
 use Rattle.nc_owner.specs.Members.{member_cmp, has_member, with_member, without_member}
 use Rattle.nc_owner.specs.Publish.{kept_channel}
-use Rattle.nc_owner_laws.specs.Told.{desk_of, channel_of, channel_with, made, with_look, with_grants, left_channel, joined_channel, parted_channel, new_entry}
+use Rattle.nc_owner_laws.specs.OwnerTold.{desk_of, channel_of, channel_with, made, with_look, with_grants, left_channel, joined_channel, parted_channel, new_entry}
 use Rattle.nc_owner_laws.specs.Filters.{new_desk, DeskLaw, latest_of, is_same, is_member, is_marked, last_in, latest_in, members_in, marks_in, ChannelLaw}
 use Rattle.nc_owner_laws.proofs.Shelf.{turned, sorted_none}
 use Rattle.nc_owner_laws.proofs.Sets.{any_inserted, any_removed, sorted_inserted, sorted_removed, member_total, member_is, has_with_new}

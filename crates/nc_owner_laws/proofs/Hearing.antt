@@ -24,14 +24,14 @@ use Rattle.nc_owner.specs.declared.member.Member.{Member}
 use Rattle.nc_owner.specs.declared.order.Order.{Order}
 use Rattle.nc_owner.specs.Ascending.{has_number}
 use Rattle.nc_owner.specs.Members.{has_member}
-use Rattle.nc_owner.specs.Line.{OutLine}
+use Rattle.nc_owner.specs.AlertLines.{OutLine}
 use Rattle.nc_owner.specs.State.{OwnerAt, found, opened, exists, bench_of}
 use Rattle.nc_owner.specs.Leave.{left_event, leavers, touch_events, spend_events}
 use Rattle.nc_owner.specs.Poll.{free_slots, freed_event, freed_events}
 use Rattle.nc_owner.specs.Publish.{Polls, Outcome, late, full, stored, asked, roomy, leaving, lowest_slot, granted_events, notices, answer, info_of, stored_status, store_bench, stored_event, stamp, post_events, post_alerts, publish_cleared, publish_outcome, cleared_events}
 use Rattle.nc_owner.specs.Look.{found_on, looked_event, found_events, found_line, look_ready}
-use Rattle.nc_owner.specs.Calls.{touched_of, touch_events_of, info_line}
-use Rattle.nc_owner_laws.specs.Told.{Tells}
+use Rattle.nc_owner.specs.OtherSteps.{touched_of, touch_events_of, info_line}
+use Rattle.nc_owner_laws.specs.OwnerTold.{Tells}
 use Rattle.nc_owner_laws.specs.Filters.{new_desk, is_marked, marks_in}
 use Rattle.nc_owner_laws.specs.Weave.{weave, numbered}
 use Rattle.nc_owner_laws.specs.Wake.{Wake, NotYet, Waiting, ByNotice, ByGone, woken, wake, hear, hears, made_to, IsOnlyAt, Wakes, NewWakes, LookWakes, PublishWakes, OthersWake}

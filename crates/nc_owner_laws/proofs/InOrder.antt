@@ -9,7 +9,7 @@ use Rattle.nc_journal.specs.History.{onto, Along}
 use Rattle.nc_journal.specs.Stamp.{IsStamped, floor_of}
 use Rattle.nc_journal.specs.Message.{Message as KeptMessage, buffer, first_past as first_message}
 use Rattle.nc_journal.specs.declared.event.Event.{Event}
-use Rattle.nc_journal.specs.declared.event.Event.TheVariants.{Stored, Left, Joined, Parted, Granted, Looked, Removed, Made}
+use Rattle.nc_journal.specs.declared.event.Event.TheVariants.{Stored, Left, Joined, Parted, Granted, Looked, Edged, Removed, Made}
 use Rattle.nc_journal.specs.declared.word.LeftCause.{LeftCause}
 use Rattle.nc_journal.specs.declared.word.LeftCause.TheVariants.{Expired, Spent, Length}
 use Rattle.nc_journal.specs.declared.alert.AlertLine.{AlertLine}
@@ -22,18 +22,18 @@ use Rattle.nc_owner.specs.declared.desk.Desk.{Desk}
 use Rattle.nc_owner.specs.declared.member.Member.{Member}
 use Rattle.nc_owner.specs.declared.order.Order.{Order}
 use Rattle.nc_owner.specs.Members.{has_member}
-use Rattle.nc_owner.specs.Line.{OutLine}
+use Rattle.nc_owner.specs.AlertLines.{OutLine}
 use Rattle.nc_owner.specs.State.{OwnerAt, entries_of, found, opened, exists, bench_of}
 use Rattle.nc_owner.specs.Leave.{left_event, leavers, spend_events}
 use Rattle.nc_owner.specs.Poll.{free_slots, freed_event, freed_events}
 use Rattle.nc_owner.specs.Publish.{Polls, Outcome, late, full, stored, asked, roomy, leaving, lowest_slot, granted_events, notices, answer, stored_status, info_of, store_bench, stored_event, stamp, post_events, post_alerts, publish_cleared, publish_outcome, cleared_events}
 use Rattle.nc_owner.specs.Look.{id_of, found_on, looked_event, found_events, found_line, look_ready, look_events, look_alerts, answered, counted_at}
-use Rattle.nc_owner.specs.Calls.{touched_of, touch_events_of, info_alerts, polled_events, parted_events}
-use Rattle.nc_owner_laws.specs.Told.{desk_of, channel_of}
+use Rattle.nc_owner.specs.OtherSteps.{touched_of, touch_events_of, info_alerts, polled_events, parted_events}
+use Rattle.nc_owner_laws.specs.OwnerTold.{desk_of, channel_of}
 use Rattle.nc_owner_laws.specs.Filters.{new_desk}
 use Rattle.nc_owner_laws.specs.Buffered.{Brief, brief_entry, brief_message, entries_in, LeavesStored}
 use Rattle.nc_owner_laws.specs.Weave.{weave, makes, numbered}
-use Rattle.nc_owner_laws.specs.Standing.{Stands}
+use Rattle.nc_owner_laws.specs.OwnerStanding.{Stands}
 use Rattle.nc_owner_laws.specs.Removal.{IsLeft, IsOfRemoval}
 use Rattle.nc_owner_laws.specs.InOrder.{TellsThen, next_look, next_grant, AnswersLook, InOrder, NewInOrder, OthersInOrder, PublishInOrder, RemovalInOrder}
 use Rattle.nc_owner_laws.proofs.Kept.{all_append}
@@ -53,24 +53,28 @@ use Rattle.nc_owner_laws.proofs.OwnerSteps.{behind, front_stored, calm_found, fo
 pub new_in_order : NewInOrder
 new_in_order first = record { looks = tt; draws = tt; answers = tt }
 
--- ---- events that are neither looks nor grants nor answers to looks
+-- ---- events that are neither looks, edges nor grants, nor answers to looks and edges
 
 abbrev IsNoAnswer : AlertLine → Type 0
 IsNoAnswer (lines.LookAnswer number q floor past g slot) = ⊥
+IsNoAnswer (lines.EdgeAnswer number q floor last) = ⊥
 IsNoAnswer _ = Unit {0}
 
 abbrev pub IsPassive : Event → Type 0
 IsPassive (Looked w q from number c after floor past) = ⊥
+IsPassive (Edged w q from number k c floor last) = ⊥
 IsPassive (Granted w g slot to) = ⊥
 IsPassive (Made v to n a) = IsNoAnswer a
 IsPassive _ = Unit {0}
 
 no_answer : (v to : ℕ) (h : List Event) (a : AlertLine) → IsNoAnswer a → AnswersLook v to h a
 no_answer v to h (lines.LookAnswer number q floor past g slot) p = absurd p
+no_answer v to h (lines.EdgeAnswer number q floor last) p = absurd p
 no_answer v to h a p = tt
 
 passive_one : (first : ℕ) (e : Event) (h : List Event) → IsPassive e → InOrder first h → InOrder first (e ∷ h)
 passive_one first (Looked w q from number c after floor past) h p k = absurd p
+passive_one first (Edged w q from number n c floor last) h p k = absurd p
 passive_one first (Granted w g slot to) h p k = absurd p
 passive_one first (Made v to n a) h p k = record { looks = (k.looks, tt); draws = (k.draws, tt); answers = (k.answers, no_answer v to h a p) }
 passive_one first e h p k = record { looks = (k.looks, tt); draws = (k.draws, tt); answers = (k.answers, tt) }
@@ -90,11 +94,13 @@ passive_weave v next (e ∷ es) alerts p n = (p.0, passive_weave v next es alert
 
 same_look : (first : ℕ) (e : Event) (h : List Event) → IsPassive e → next_look first (e ∷ h) ≡ next_look first h
 same_look first (Looked w q from number c after floor past) h p = absurd p
+same_look first (Edged w q from number n c floor last) h p = absurd p
 same_look first (Granted w g slot to) h p = absurd p
 same_look first e h p = refl
 
 same_grant : (first : ℕ) (e : Event) (h : List Event) → IsPassive e → next_grant first (e ∷ h) ≡ next_grant first h
 same_grant first (Looked w q from number c after floor past) h p = absurd p
+same_grant first (Edged w q from number n c floor last) h p = absurd p
 same_grant first (Granted w g slot to) h p = absurd p
 same_grant first e h p = refl
 
@@ -127,6 +133,7 @@ left_floor w c cause (e ∷ es) h = left_floor w c cause es (left_event w c caus
 pub looks_law : (d : Desk) (h : List Event) → (desk_of d h).looks ≡ next_look d.looks h
 looks_law d [] = refl
 looks_law d (Looked w q from number c after floor past ∷ h) = refl
+looks_law d (Edged w q from number n c floor last ∷ h) = refl
 looks_law d (Stored w c id slot len exp true members from r ct body ∷ h) = looks_law d h
 looks_law d (Stored w c id slot len exp false members from r ct body ∷ h) = looks_law d h
 looks_law d (e ∷ h) = looks_law d h
@@ -328,6 +335,7 @@ removal_none c (a ∷ alerts) p = (by a.line p.0, removal_none c alerts p.1)
   where
     by : (line : AlertLine) → IsOfRemoval c line → IsNoAnswer line
     by (lines.LookAnswer number q floor past g slot) p = absurd p
+    by (lines.EdgeAnswer number q floor last) p = absurd p
     by line p = tt
 
 pub removal_in_order : RemovalInOrder

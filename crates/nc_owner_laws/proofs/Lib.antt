@@ -27,3 +27,13 @@ pub mod Removal
 pub mod InOrder
 pub mod Behind
 pub mod Drawn
+pub mod AnsweredOnce
+pub mod ToldPolls
+pub mod HoldsKept
+pub mod Aside
+pub mod EventKinds
+pub mod Reaps
+pub mod Staging
+pub mod Rising
+pub mod Refusing
+pub mod SlotKeeping

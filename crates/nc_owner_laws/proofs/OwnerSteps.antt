@@ -23,20 +23,20 @@ use Rattle.nc_owner.specs.declared.poll.PollAnswer.{PollAnswer}
 use Rattle.nc_owner.specs.declared.member.Member.{Member}
 use Rattle.nc_owner.specs.declared.order.Order.{Order}
 use Rattle.nc_owner.specs.Members.{has_member}
-use Rattle.nc_owner.specs.Line.{OutLine}
+use Rattle.nc_owner.specs.AlertLines.{OutLine}
 use Rattle.nc_owner.specs.State.{OwnerAt, entries_of, found, opened, bench_of}
 use Rattle.nc_owner.specs.Leave.{left_event, leavers, stayers, spend_events}
 use Rattle.nc_owner.specs.Poll.{slot_of, free_slots, freed_event, freed_events}
 use Rattle.nc_owner.specs.Publish.{Polls, Outcome, late, full, stored, asked, roomy, leaving, leaving_count, lowest_slot, granted_events, notices, answer, stored_status, info_of, store_bench, stored_event, stamp, post_events, post_alerts, publish_cleared, publish_outcome, publish_row, publish_after, cleared_events}
 use Rattle.nc_owner.specs.Look.{found_on, looked_event, found_events, found_line, look_ready, look_events, look_alerts, look_row, look_after, answered, counted_at}
-use Rattle.nc_owner.specs.Calls.{touched_of, touched_row, touch_after, touch_events_of, join_events, join_after, part_events, part_after, parted_events, info_alerts, polled_events, polled_row, polled_after, with_clock}
+use Rattle.nc_owner.specs.OtherSteps.{touched_of, touched_row, touch_after, touch_events_of, join_events, join_after, part_events, part_after, parted_events, info_alerts, polled_events, polled_row, polled_after, with_clock}
 use Rattle.nc_owner_laws.specs.Fits.{Fits}
-use Rattle.nc_owner_laws.specs.Told.{channel_of, Tells}
+use Rattle.nc_owner_laws.specs.OwnerTold.{channel_of, Tells}
 use Rattle.nc_owner_laws.specs.Filters.{new_desk}
 use Rattle.nc_owner_laws.specs.Buffered.{entries_in, LeavesStored}
 use Rattle.nc_owner_laws.specs.Weave.{weave}
 use Rattle.nc_owner_laws.specs.Wake.{Wakes}
-use Rattle.nc_owner_laws.specs.Standing.{NothingPast, Stands, NewStands, OthersStand, SweepStands, PublishStands}
+use Rattle.nc_owner_laws.specs.OwnerStanding.{NothingPast, Stands, NewStands, OthersStand, SweepStands, PublishStands}
 use Rattle.nc_owner_laws.proofs.Kept.{all_append, all_filtered}
 use Rattle.nc_owner_laws.proofs.Looking.{same_ids}
 use Rattle.nc_owner_laws.proofs.Steps as keeping

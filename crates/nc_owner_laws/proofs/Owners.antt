@@ -17,18 +17,18 @@ use Rattle.nc_journal.specs.declared.alert.AlertLine.{AlertLine}
 use Rattle.nc_buffer.specs.declared.entry.Entry.{Entry}
 use Rattle.nc_owner.specs.declared.desk.Desk.{Desk}
 use Rattle.nc_owner.specs.declared.member.Member.{Member}
-use Rattle.nc_owner.specs.Line.{OutLine}
+use Rattle.nc_owner.specs.AlertLines.{OutLine}
 use Rattle.nc_owner.specs.State.{OwnerAt, entries_of, found, opened}
 use Rattle.nc_owner.specs.Leave.{left_event}
 use Rattle.nc_owner.specs.Poll.{freed_event}
 use Rattle.nc_owner.specs.Publish.{granted_events}
 use Rattle.nc_owner.specs.Look.{looked_event, found_events}
-use Rattle.nc_owner_laws.specs.Told.{desk_with, channel_with, desk_of, channel_of, Tells}
+use Rattle.nc_owner_laws.specs.OwnerTold.{desk_with, channel_with, desk_of, channel_of, Tells}
 use Rattle.nc_owner_laws.specs.Filters.{new_desk}
 use Rattle.nc_owner_laws.specs.Buffered.{Brief, brief_entry, brief_message, entries_in, LeavesStored}
 use Rattle.nc_owner_laws.specs.Weave.{weave, makes, numbered}
 use Rattle.nc_owner_laws.specs.Wake.{Wake, NotYet, Waiting, ByNotice, ByGone, woken, wake}
-use Rattle.nc_owner_laws.specs.Standing.{look_past, NothingPast}
+use Rattle.nc_owner_laws.specs.OwnerStanding.{look_past, NothingPast}
 use Rattle.nc_owner_laws.proofs.Used.{eqb_self}
 use Rattle.nc_owner_laws.proofs.Kept.{all_filtered}
 use Rattle.nc_owner_laws.proofs.Buffering.{buffer_law, made_entries, stored_buffer}

@@ -13,11 +13,11 @@ use Rattle.nc_journal.specs.declared.event.Event.TheVariants.{Left, Removed, Mad
 use Rattle.nc_journal.specs.declared.word.RemovedCause.{RemovedCause}
 use Rattle.nc_journal.specs.declared.alert.AlertLine.{AlertLine}
 use Rattle.nc_journal.specs.declared.alert.AlertLine.TheVariants as lines
-use Rattle.nc_owner.specs.Line.{OutLine}
+use Rattle.nc_owner.specs.AlertLines.{OutLine}
 use Rattle.nc_owner_laws.specs.Filters.{is_marked}
 use Rattle.nc_owner_laws.specs.Weave.{makes, numbered}
 use Rattle.nc_owner_laws.specs.Wake.{Wake, NotYet, Waiting, ByNotice, ByGone, woken, wake, hear, IsOnlyAt}
-use Rattle.nc_owner_laws.specs.Standing.{look_past, NothingPast}
+use Rattle.nc_owner_laws.specs.OwnerStanding.{look_past, NothingPast}
 use Rattle.nc_owner_laws.specs.Removal.{IsLeft, IsOfRemoval, is_gone_line, is_told_gone, removal_onto, RemovalWakes, RemovalPast}
 use Rattle.nc_owner_laws.proofs.Events.{name_self}
 use Rattle.nc_owner_laws.proofs.Stamping.{onto_append}

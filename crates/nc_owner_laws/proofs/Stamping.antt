@@ -26,8 +26,8 @@ use Rattle.nc_owner.specs.Leave.{left_event, leavers}
 use Rattle.nc_owner.specs.Poll.{free_slots, freed_event, freed_events}
 use Rattle.nc_owner.specs.Publish.{Polls, Outcome, late, full, stored, outcome_by, usage_of, is_full, stamp, asked, roomy, leaving, lowest_slot, granted_events, stored_event, stored_events, post_events, publish_cleared, publish_outcome, cleared_events}
 use Rattle.nc_owner.specs.Look.{found_on, looked_event, found_events, look_ready}
-use Rattle.nc_owner.specs.Calls.{touched_of, touch_events_of}
-use Rattle.nc_owner_laws.specs.Told.{desk_of, channel_of, made, Tells}
+use Rattle.nc_owner.specs.OtherSteps.{touched_of, touch_events_of}
+use Rattle.nc_owner_laws.specs.OwnerTold.{desk_of, channel_of, made, Tells}
 use Rattle.nc_owner_laws.specs.Filters.{new_desk}
 use Rattle.nc_owner_laws.specs.Stamped.{IsHistoryOf, PublishStamped, OthersStamped, FloorLaw}
 use Rattle.nc_owner_laws.proofs.Used.{eqb_self}

@@ -34,11 +34,11 @@ use Rattle.nc_owner.specs.Leave.{left_event, left_by, leavers, stayers, touch_ev
 use Rattle.nc_owner.specs.Poll.{slot_of, free_slots, freed_event, freed_events, polled_desk}
 use Rattle.nc_owner.specs.Publish.{Polls, Outcome, late, full, stored, is_stored, outcome, stamp, asked, roomy, leaving, leaving_count, granted_events, granted_desk, stored_events, store_events, store_bench, post_events, post_bench, lowest_slot, kept_channel, kept_entries, kept_desk, publish_cleared, publish_outcome, publish_bench}
 use Rattle.nc_owner.specs.Look.{found_on, counted_at, found_desk, found_marks, found_events, looked_event, answered, answered_events, look_ready}
-use Rattle.nc_owner.specs.Calls.{touched_of, touch_events_of, joined, parted, parted_events, polled_events}
+use Rattle.nc_owner.specs.OtherSteps.{touched_of, touch_events_of, joined, parted, parted_events, polled_events}
 use Rattle.nc_owner_laws.specs.Used.{is_retired, times}
 use Rattle.nc_owner_laws.specs.Kept.{slots_in}
 use Rattle.nc_owner_laws.specs.Fits.{Fits, BenchFits}
-use Rattle.nc_owner_laws.specs.Told.{desk_with, channel_with, made, with_look, with_grants, new_entry, joined_channel, parted_channel, desk_of, channel_of}
+use Rattle.nc_owner_laws.specs.OwnerTold.{desk_with, channel_with, made, with_look, with_grants, new_entry, joined_channel, parted_channel, desk_of, channel_of}
 use Rattle.nc_owner_laws.specs.Telling.{NewTells, TouchTells, JoinTells, PartTells, LookTells, PolledTells, ClockTells, PublishTells}
 use Rattle.nc_owner_laws.proofs.Kept.{bit_le}
 use Rattle.nc_owner_laws.proofs.Leaving.{let_go_fits}

@@ -18,7 +18,7 @@ use Rattle.nc_owner.specs.State.{OwnerAt, Bench, entries_of, found, exists, new_
 use Rattle.nc_owner.specs.Leave.{stayers}
 use Rattle.nc_owner.specs.Poll.{held_slots}
 use Rattle.nc_owner.specs.Publish.{Polls, PublishPolls, Outcome, late, full, stored, is_stored, outcome, asked, roomy, lowest_slot, post_bench, publish_cleared, publish_outcome, publish_bench}
-use Rattle.nc_owner.specs.Calls.{touched_of, joined, parted}
+use Rattle.nc_owner.specs.OtherSteps.{touched_of, joined, parted}
 use Rattle.nc_owner_laws.specs.Used.{is_retired, bit, times}
 use Rattle.nc_owner_laws.specs.Kept.{slots_in}
 use Rattle.nc_owner_laws.specs.Fits.{all_entries, Fits, BenchFits}

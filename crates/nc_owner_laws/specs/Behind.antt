@@ -15,7 +15,7 @@ use Rattle.nc_owner.specs.State.{OwnerAt, found}
 use Rattle.nc_owner_laws.specs.Filters.{marks_in}
 use Rattle.nc_owner_laws.specs.Buffered.{entries_in}
 use Rattle.nc_owner_laws.specs.Wake.{Waiting, ByNotice, wake}
-use Rattle.nc_owner_laws.specs.Standing.{look_past, Stands}
+use Rattle.nc_owner_laws.specs.OwnerStanding.{look_past, Stands}
 use Rattle.nc_owner_laws.specs.InOrder.{InOrder}
 
 -- no message is past an id

@@ -10,7 +10,7 @@ use Rattle.nc_journal.specs.declared.event.Event.TheVariants.{Left, Removed}
 use Rattle.nc_buffer.specs.declared.entry.Entry.{Entry}
 use Rattle.nc_owner.specs.declared.channel.Channel.{Channel}
 use Rattle.nc_owner.specs.State.{entries_of}
-use Rattle.nc_owner_laws.specs.Told.{channel_of}
+use Rattle.nc_owner_laws.specs.OwnerTold.{channel_of}
 use Rattle.nc_owner_laws.specs.Filters.{new_desk}
 
 -- what an entry and a message have in common

@@ -3,18 +3,19 @@ use Rattle.std.specs.Prelude.{◌≡◌, ℕ, ◌<◌, ◌≤◌, List, [], ◌�
 use Rattle.std.specs.List.{AllByRecursion}
 use Rattle.nc_types.specs.Message.{Message}
 use Rattle.nc_journal.specs.declared.event.Event.{Event}
-use Rattle.nc_journal.specs.declared.event.Event.TheVariants.{Looked, Granted}
+use Rattle.nc_journal.specs.declared.event.Event.TheVariants.{Looked, Edged, Granted}
 use Rattle.nc_slots.specs.declared.slot.Slot.{Slot}
 use Rattle.nc_owner.specs.State.{OwnerAt}
 use Rattle.nc_owner_laws.specs.Used.{times}
 use Rattle.nc_owner_laws.specs.Wake.{NotYet, wake, IsOnlyAt}
-use Rattle.nc_owner_laws.specs.Standing.{Stands}
+use Rattle.nc_owner_laws.specs.OwnerStanding.{Stands}
 use Rattle.nc_owner_laws.specs.InOrder.{InOrder}
 
--- the numbers of the looks of a history, and of its grants
+-- the numbers of the looks and edges of a history, and of its grants
 abbrev pub look_numbers : List Event → List ℕ
 look_numbers [] = []
 look_numbers (Looked w q from number c after floor found ∷ h) = q ∷ look_numbers h
+look_numbers (Edged w q from number k c floor last ∷ h) = q ∷ look_numbers h
 look_numbers (e ∷ h) = look_numbers h
 
 abbrev pub grant_numbers : List Event → List ℕ

@@ -12,7 +12,7 @@ use Rattle.nc_owner.specs.declared.member.Member.{Member}
 use Rattle.nc_owner.specs.Ascending.{has_number}
 use Rattle.nc_owner.specs.Members.{has_member}
 use Rattle.nc_owner.specs.State.{new_owner}
-use Rattle.nc_owner_laws.specs.Told.{desk_of, channel_of}
+use Rattle.nc_owner_laws.specs.OwnerTold.{desk_of, channel_of}
 
 -- the desk with which an owner begins
 abbrev pub new_desk : ℕ → ℕ → ℕ → ℕ → Desk

@@ -12,7 +12,7 @@ use Rattle.nc_owner.specs.State.{OwnerAt, new_owner}
 use Rattle.nc_owner.specs.Poll.{slot_of, held_slots}
 use Rattle.nc_owner.specs.Publish.{Polls, PublishPolls, stored, roomy, asked, publish_cleared, publish_outcome, publish_row, publish_after}
 use Rattle.nc_owner.specs.Look.{look_row, look_after}
-use Rattle.nc_owner.specs.Calls.{touched_row, touch_after, join_after, part_after, polled_row, polled_after, with_clock}
+use Rattle.nc_owner.specs.OtherSteps.{touched_row, touch_after, join_after, part_after, polled_row, polled_after, with_clock}
 use Rattle.nc_owner_laws.specs.Used.{times}
 use Rattle.nc_owner_laws.specs.Fits.{Fits}
 

@@ -8,11 +8,11 @@ use Rattle.nc_journal.specs.declared.event.Event.TheVariants.{Left, Removed}
 use Rattle.nc_journal.specs.declared.word.RemovedCause.{RemovedCause}
 use Rattle.nc_journal.specs.declared.alert.AlertLine.{AlertLine}
 use Rattle.nc_journal.specs.declared.alert.AlertLine.TheVariants as lines
-use Rattle.nc_owner.specs.Line.{OutLine}
+use Rattle.nc_owner.specs.AlertLines.{OutLine}
 use Rattle.nc_owner_laws.specs.Filters.{is_marked}
 use Rattle.nc_owner_laws.specs.Weave.{weave}
 use Rattle.nc_owner_laws.specs.Wake.{wake, Waiting, Wakes}
-use Rattle.nc_owner_laws.specs.Standing.{NothingPast}
+use Rattle.nc_owner_laws.specs.OwnerStanding.{NothingPast}
 
 -- before a channel is removed messages leave
 abbrev pub IsLeft : Event → Type 0

@@ -7,7 +7,7 @@ use Rattle.nc_slots.specs.declared.slot.Slot.{Slot}
 use Rattle.nc_owner.specs.State.{OwnerAt, found}
 use Rattle.nc_owner_laws.specs.Filters.{DeskFilters, ChannelFilters}
 use Rattle.nc_owner_laws.specs.Buffered.{brief_entry, brief_message, entries_in}
-use Rattle.nc_owner_laws.specs.Standing.{Stands}
+use Rattle.nc_owner_laws.specs.OwnerStanding.{Stands}
 
 -- its clock, floor, spent id, last ids, members, marks and entries are those that the definitions filter,
 -- and the ids of each channel rise

@@ -13,8 +13,8 @@ use Rattle.nc_owner.specs.declared.order.Order.{Order}
 use Rattle.nc_owner.specs.State.{OwnerAt}
 use Rattle.nc_owner.specs.Publish.{Polls, publish_events}
 use Rattle.nc_owner.specs.Look.{look_events}
-use Rattle.nc_owner.specs.Calls.{touch_events_of, join_events, part_events, polled_events}
-use Rattle.nc_owner_laws.specs.Told.{Tells}
+use Rattle.nc_owner.specs.OtherSteps.{touch_events_of, join_events, part_events, polled_events}
+use Rattle.nc_owner_laws.specs.OwnerTold.{Tells}
 use Rattle.nc_owner_laws.specs.Filters.{new_desk}
 
 -- a local history of an owner of some workers, which tells it

@@ -14,9 +14,9 @@ use Rattle.nc_owner.specs.State.{OwnerAt, new_owner}
 use Rattle.nc_owner.specs.Poll.{slot_of}
 use Rattle.nc_owner.specs.Publish.{Polls, PublishPolls, publish_events, publish_after}
 use Rattle.nc_owner.specs.Look.{look_events, look_after}
-use Rattle.nc_owner.specs.Calls.{touch_events_of, touch_after, join_events, join_after, part_events, part_after, polled_events, polled_after, with_clock}
+use Rattle.nc_owner.specs.OtherSteps.{touch_events_of, touch_after, join_events, join_after, part_events, part_after, polled_events, polled_after, with_clock}
 use Rattle.nc_owner_laws.specs.Fits.{Fits}
-use Rattle.nc_owner_laws.specs.Told.{Tells}
+use Rattle.nc_owner_laws.specs.OwnerTold.{Tells}
 
 -- the empty history tells a new owner
 abbrev pub NewTells : Type 0

@@ -15,8 +15,8 @@ use Rattle.nc_owner.specs.declared.poll.PollAnswer.{PollAnswer}
 use Rattle.nc_owner.specs.State.{OwnerAt}
 use Rattle.nc_owner.specs.Publish.{Polls, publish_events, publish_alerts}
 use Rattle.nc_owner.specs.Look.{look_events, look_alerts}
-use Rattle.nc_owner.specs.Calls.{touch_events_of, join_events, part_events, info_alerts, polled_events}
-use Rattle.nc_owner_laws.specs.Told.{Tells}
+use Rattle.nc_owner.specs.OtherSteps.{touch_events_of, join_events, part_events, info_alerts, polled_events}
+use Rattle.nc_owner_laws.specs.OwnerTold.{Tells}
 use Rattle.nc_owner_laws.specs.Filters.{new_desk, is_marked}
 use Rattle.nc_owner_laws.specs.Weave.{weave}
 

@@ -4,10 +4,19 @@
 //! Whoever proves what holds of whole histories stands above: `standing` has all of it together, and `places` what each look and number in such a history tells.
 #![tactic(auto)]
 
+mod answers;
+mod ascending;
+mod beside;
 mod filters;
+mod holds;
 mod keeping;
+mod of_owner;
 mod places;
+mod reaping;
+mod refusals;
+mod slot_rule;
 mod slots;
+mod stages;
 mod stamps;
 mod standing;
 mod telling;

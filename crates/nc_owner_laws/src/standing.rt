@@ -1,6 +1,6 @@
 //! An owner with its slots stands for its history: all of the above together, kept by each step.
 ghost use Rattle.nc_owner_laws.specs.Shown.{StandsShows};
-ghost use Rattle.nc_owner_laws.specs.Standing.{NewStands, OthersStand, SweepStands, PublishStands};
+ghost use Rattle.nc_owner_laws.specs.OwnerStanding.{NewStands, OthersStand, SweepStands, PublishStands};
 
 /// A new owner stands for the empty history.
 pub fn new_stands()

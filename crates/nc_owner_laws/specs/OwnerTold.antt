@@ -5,7 +5,7 @@ use Rattle.nc_types.specs.Id.{Id, id_eq}
 use Rattle.nc_types.specs.Channel.{name_eq}
 use Rattle.nc_journal.specs.Stamp.{greater_id}
 use Rattle.nc_journal.specs.declared.event.Event.{Event}
-use Rattle.nc_journal.specs.declared.event.Event.TheVariants.{Clock, Raised, Stored, Left, Looked, Joined, Parted, Granted, Freed, Removed}
+use Rattle.nc_journal.specs.declared.event.Event.TheVariants.{Clock, Raised, Stored, Left, Looked, Edged, Joined, Parted, Granted, Freed, Removed}
 use Rattle.nc_buffer.specs.declared.entry.Entry.{Entry}
 use Rattle.nc_owner.specs.declared.channel.Channel.{Channel}
 use Rattle.nc_owner.specs.declared.desk.Desk.{Desk}
@@ -25,6 +25,7 @@ desk_with d (Stored w c id slot len exp false members from r ct body) = record d
 desk_with d (Left w c id slot cause) = record d { retired = with_number d.retired slot; buffered = d.buffered - 1 }
 desk_with d (Freed w slot) = record d { retired = without_number d.retired slot }
 desk_with d (Looked w q from number c after floor found) = record d { looks = q + 1 }
+desk_with d (Edged w q from number k c floor last) = record d { looks = q + 1 }
 desk_with d (Granted w g slot to) = record d { grants = g + 1 }
 desk_with d (Removed w c last cause) = record d { spent = greater_id d.spent last }
 desk_with d e = d

@@ -18,9 +18,9 @@ use Rattle.nc_owner.specs.State.{OwnerAt, new_owner}
 use Rattle.nc_owner.specs.Poll.{slot_of}
 use Rattle.nc_owner.specs.Publish.{Polls, PublishPolls, publish_events, publish_alerts, publish_row, publish_after}
 use Rattle.nc_owner.specs.Look.{look_events, look_alerts, look_row, look_after}
-use Rattle.nc_owner.specs.Calls.{touch_events_of, touched_row, touch_after, join_events, join_after, part_events, part_after, info_alerts, polled_events, polled_row, polled_after, with_clock}
+use Rattle.nc_owner.specs.OtherSteps.{touch_events_of, touched_row, touch_after, join_events, join_after, part_events, part_after, info_alerts, polled_events, polled_row, polled_after, with_clock}
 use Rattle.nc_owner_laws.specs.Fits.{Fits}
-use Rattle.nc_owner_laws.specs.Told.{Tells}
+use Rattle.nc_owner_laws.specs.OwnerTold.{Tells}
 use Rattle.nc_owner_laws.specs.Filters.{new_desk}
 use Rattle.nc_owner_laws.specs.Buffered.{LeavesStored}
 use Rattle.nc_owner_laws.specs.Weave.{weave}
