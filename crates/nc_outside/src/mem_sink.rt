@@ -64,7 +64,9 @@ impl Sink for MemSink {
         ensures whole { IfOk result (λ n. n ≡ length piece.now) }
         ensures added { OnOk result (bytes_taken self.new ≡ bytes_taken self.old ++ piece.now) }
         ensures unmoved { OnErr result (bytes_taken self.new ≡ bytes_taken self.old) }
-        ensures next { MatchResult result (λ _. writes self.new ≡ after_call (writes self.old)) (λ _. writes self.new ≡ after_fault (writes self.old)) }
+        ensures next { MatchResult result
+            (λ _. writes self.new ≡ after_call (writes self.old))
+            (λ _. writes self.new ≡ after_fault (writes self.old)) }
         ensures counted { (writes self.old).faults ≤ (writes self.new).faults }
     {
         if self.calls.is_failing() {

@@ -49,7 +49,9 @@ impl Source for MemSource {
         ensures ungiven { OnErr result (given_by self.new ≡ given_by self.old) }
         ensures moved { IfOk result (λ n. MovesTo (bytes_left self.old) (Some (bytes_left self.new)) room.new n) }
         ensures unmoved { OnErr result (bytes_left self.new ≡ bytes_left self.old) }
-        ensures next { MatchResult result (λ _. reads self.new ≡ after_call (reads self.old)) (λ _. reads self.new ≡ after_fault (reads self.old)) }
+        ensures next { MatchResult result
+            (λ _. reads self.new ≡ after_call (reads self.old))
+            (λ _. reads self.new ≡ after_fault (reads self.old)) }
         ensures counted { (reads self.old).faults ≤ (reads self.new).faults }
     {
         if self.calls.is_failing() {

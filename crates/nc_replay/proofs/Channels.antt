@@ -10,9 +10,9 @@ use Rattle.std.proofs.lemmas.Cmp.{tied_itself}
 use Rattle.std.proofs.lemmas.List.Edits.{length-insert, get_or-insert_at}
 use Rattle.std.proofs.lemmas.Map.Lookups.{exact_bytes}
 use Rattle.nc_types.specs.Channel.{name_eq}
-use Rattle.nc_replay.specs.declared.engine.Channel.{Channel}
-use Rattle.nc_replay.specs.declared.engine.Waiting.{Waiting}
-use Rattle.nc_replay.specs.Told.{IsBefore, AreInOrder}
+use Rattle.nc_replay.specs.declared.channel.Channel.{Channel}
+use Rattle.nc_replay.specs.declared.waiting.Waiting.{Waiting}
+use Rattle.nc_replay.specs.LineEvents.{ComesBefore, AreInOrder}
 use Rattle.nc_replay.specs.Machine.{is_before, channel_of, with_channel, no_channel, names_of, touched, IsPlaceOf, IsPlaceFrom, IsPlaceFor, enter, place_among}
 
 pub name-same : (c d : List ℕ) → name_eq c d ≡ true → c ≡ d
@@ -22,20 +22,20 @@ pub name-self : (c d : List ℕ) → c ≡ d → name_eq c d ≡ true
 name-self c d same = (bytes_decides c d).1 same
 
 -- the order of names
-pub before-trans : (c d e : List ℕ) → IsBefore c d → IsBefore d e → IsBefore c e
+pub before-trans : (c d e : List ℕ) → ComesBefore c d → ComesBefore d e → ComesBefore c e
 before-trans c d e h k = nat_list_cmp_total.trans c d e h k
 
-pub before-itself : (c : List ℕ) → IsBefore c c → ⊥
+pub before-itself : (c : List ℕ) → ComesBefore c c → ⊥
 before-itself c h = let e : Less ≡ Equal = sym h ∙ tied_itself nat_list_cmp_total c in cc
 
-pub before-apart : (c d : List ℕ) → IsBefore c d → name_eq d c ≡ false
+pub before-apart : (c d : List ℕ) → ComesBefore c d → name_eq d c ≡ false
 before-apart c d before = by (name_eq d c) refl
   where
     by : (b : Bool) → name_eq d c ≡ b → b ≡ false
-    by true same = absurd (before-itself c (subst (IsBefore c) (name-same d c same) before))
+    by true same = absurd (before-itself c (subst (ComesBefore c) (name-same d c same) before))
     by false other = refl
 
-pub before-test : (c d : List ℕ) → is_before c d ≡ true → IsBefore c d
+pub before-test : (c d : List ℕ) → is_before c d ≡ true → ComesBefore c d
 before-test c d test = by (slice_cmp nat_cmp c d) test
   where
     by : (o : Ordering) → is_lt o ≡ true → o ≡ Less
@@ -44,10 +44,10 @@ before-test c d test = by (slice_cmp nat_cmp c d) test
     by Greater h = absurd (true≢false (sym h))
 
 -- one of two names that differ comes before the other
-pub before-other : (c d : List ℕ) → is_before c d ≡ false → name_eq d c ≡ false → IsBefore d c
+pub before-other : (c d : List ℕ) → is_before c d ≡ false → name_eq d c ≡ false → ComesBefore d c
 before-other c d test other = by (slice_cmp nat_cmp c d) refl
   where
-    by : (o : Ordering) → slice_cmp nat_cmp c d ≡ o → IsBefore d c
+    by : (o : Ordering) → slice_cmp nat_cmp c d ≡ o → ComesBefore d c
     by Less is = absurd (true≢false (ap is_lt (sym is) ∙ test))
     by Equal is = absurd (true≢false (sym (name-self d c (sym (exact_bytes c d is))) ∙ other))
     by Greater is = nat_list_cmp_total.antisymm d c ∙ ap ordering_reverse is
@@ -92,7 +92,7 @@ place-is c at channels x passed within is same =
 abbrev Stops : List ℕ → ℕ → List Channel → Channel → Type 0
 Stops c at channels x = at < length channels → is_before c (get_or channels at x).name ≡ true
 
-later_missing : (c d : List ℕ) (channels : List Channel) → IsBefore c d → AllByRecursion (IsBefore d) (names_of channels) → channel_of c channels ≡ no_channel c
+later_missing : (c d : List ℕ) (channels : List Channel) → ComesBefore c d → AllByRecursion (ComesBefore d) (names_of channels) → channel_of c channels ≡ no_channel c
 later_missing c d [] before later = refl
 later_missing c d (x ∷ rest) before later = rw (before-apart c x.name (before-trans c d x.name before later.0)) (later_missing c d rest before later.1)
 
@@ -189,15 +189,15 @@ pub channel-here : (c : List ℕ) (x : Channel) (channels : List Channel) → x.
 channel-here c x channels is = channel-with c c x channels is ∙ ap (λ b. cond b x (channel_of c channels)) (name-self c c refl)
 
 -- the names stay in order when a channel is put in its place
-all_with : (n c : List ℕ) (x : Channel) (channels : List Channel) → x.name ≡ c → IsBefore n c → AllByRecursion (IsBefore n) (names_of channels) → AllByRecursion (IsBefore n) (names_of (with_channel c x channels))
-all_with n c x [] is before later = (subst (IsBefore n) (sym is) before, tt)
+all_with : (n c : List ℕ) (x : Channel) (channels : List Channel) → x.name ≡ c → ComesBefore n c → AllByRecursion (ComesBefore n) (names_of channels) → AllByRecursion (ComesBefore n) (names_of (with_channel c x channels))
+all_with n c x [] is before later = (subst (ComesBefore n) (sym is) before, tt)
 all_with n c x (y ∷ rest) is before later =
-    let here : IsBefore n x.name = subst (IsBefore n) (sym is) before in
-    cond_both (name_eq y.name c) _ _ (λ l. AllByRecursion (IsBefore n) (names_of l))
+    let here : ComesBefore n x.name = subst (ComesBefore n) (sym is) before in
+    cond_both (name_eq y.name c) _ _ (λ l. AllByRecursion (ComesBefore n) (names_of l))
     (λ _. (here, later.1))
-    (λ _. cond_both (is_before c y.name) _ _ (λ l. AllByRecursion (IsBefore n) (names_of l)) (λ _. (here, later)) (λ _. (later.0, all_with n c x rest is before later.1)))
+    (λ _. cond_both (is_before c y.name) _ _ (λ l. AllByRecursion (ComesBefore n) (names_of l)) (λ _. (here, later)) (λ _. (later.0, all_with n c x rest is before later.1)))
 
-all_later : (c d : List ℕ) (names : List (List ℕ)) → IsBefore c d → AllByRecursion (IsBefore d) names → AllByRecursion (IsBefore c) names
+all_later : (c d : List ℕ) (names : List (List ℕ)) → ComesBefore c d → AllByRecursion (ComesBefore d) names → AllByRecursion (ComesBefore c) names
 all_later c d [] before later = tt
 all_later c d (n ∷ names) before later = (before-trans c d n before later.0, all_later c d names before later.1)
 
@@ -205,9 +205,9 @@ pub order-with : (c : List ℕ) (x : Channel) (channels : List Channel) → x.na
 order-with c x [] is order = (tt, tt)
 order-with c x (y ∷ rest) is order =
     cond_both (name_eq y.name c) _ _ (λ l. AreInOrder (names_of l))
-    (λ same. (subst (λ n. AllByRecursion (IsBefore n) (names_of rest)) (name-same y.name c same ∙ sym is) order.0, order.1))
+    (λ same. (subst (λ n. AllByRecursion (ComesBefore n) (names_of rest)) (name-same y.name c same ∙ sym is) order.0, order.1))
     (λ other. cond_both (is_before c y.name) _ _ (λ l. AreInOrder (names_of l))
-    (λ before. let here : IsBefore x.name y.name = subst (λ n. IsBefore n y.name) (sym is) (before-test c y.name before) in ((here, all_later x.name y.name (names_of rest) here order.0), order))
+    (λ before. let here : ComesBefore x.name y.name = subst (λ n. ComesBefore n y.name) (sym is) (before-test c y.name before) in ((here, all_later x.name y.name (names_of rest) here order.0), order))
     (λ behind. (all_with y.name c x rest is (before-other c y.name behind other) order.0, order-with c x rest is order.1)))
 
 -- what has expired leaves, and each channel stays where it is

@@ -2,20 +2,25 @@
 use Rattle.std.proofs.Common.{◌≡◌, inl, inr, ℕ, List, [], refl, subst, Option, Some, None, Result, Ok, Err, arith}
 use Rattle.std.specs.Prelude.{IfOk, IfNone, IfSome}
 use Rattle.nc_types.specs.Settings.{SettingsAt}
+use Rattle.nc_journal.specs.Lawful.{IsLawful}
+use Rattle.nc_journal.specs.declared.event.Event.{Event}
 use Rattle.nc_journal.specs.Text.{text_of}
 use Rattle.nc_replay.specs.declared.fault.Fault.{Fault}
 use Rattle.nc_replay.specs.Script.{lines_of, IsConfigured}
 use Rattle.nc_replay.specs.Plan.{IsPlan}
-use Rattle.nc_replay.specs.Told.{Leads}
+use Rattle.nc_replay.specs.LineEvents.{Leads}
 use Rattle.nc_replay.specs.Input.{Adds, AddsPrefix}
 use Rattle.nc_replay.specs.Run.{MakesAll, MakesUntil, MakesSome}
-use Rattle.nc_replay.specs.Top.{fault_text, ReplaysText, RefusesText, StopsAt, CutsOffText, CutsOffSome}
+use Rattle.nc_replay.specs.Top.{fault_text, ReplaysText, Fails, RefusesText, CutsOffText, CutsOffSome}
 use Rattle.nc_replay.proofs.Good.{good-lawful, good-start}
-use Rattle.nc_replay.proofs.Loop.{adds-nothing, adds-more, adds-prefix}
+use Rattle.nc_replay.proofs.Flows.{adds-none, adds-more, adds-prefix}
 
--- nothing is a prefix
-pub adds-none : (text : List ℕ) (taken : Option (List ℕ)) → AddsPrefix text taken taken
-adds-none text taken = (text, record { piece = []; cut = refl; added = adds-nothing taken })
+-- the lines before the first that breaks a rule were made, and the text of their lawful history was written
+pub record StopsAt (script old new : List ℕ) (fault : Fault) : Type 0 where
+  pub h : List Event
+  pub fails : Fails script h fault
+  pub lawful : IsLawful 1 h
+  pub written : Adds (text_of h) old new
 
 pub ok-none : {X E A B : Type 0} (r : Result (Option X) E) → (A → B) → IfOk r (λ o. IfNone o A) → IfOk r (λ o. IfNone o B)
 ok-none (Ok None) f h = f h
@@ -27,7 +32,7 @@ ok-some A B (Ok None) f h = tt
 ok-some A B (Ok (Some x)) f h = f x h
 ok-some A B (Err e) f h = tt
 
-pub replays-all : (text lines : List ℕ) (base : SettingsAt) (number : ℕ) (old new : Option (List ℕ)) → IsPlan text base lines number → MakesAll base (lines_of lines) old new → ReplaysText text old new
+pub replays-all : (text lines : List ℕ) (base : SettingsAt) (number : ℕ) (old new : List ℕ) → IsPlan text base lines number → MakesAll base (lines_of lines) old new → ReplaysText text old new
 replays-all text lines base number old new plan makes = record {
   h = makes.h;
   passes = record {
@@ -41,7 +46,7 @@ replays-all text lines base number old new plan makes = record {
   written = makes.written;
 }
 
-pub stops-later : (text lines : List ℕ) (base : SettingsAt) (number : ℕ) (old new : Option (List ℕ)) (fault : Fault) → IsPlan text base lines number → MakesUntil base number (lines_of lines) old new fault → StopsAt text old new fault
+pub stops-later : (text lines : List ℕ) (base : SettingsAt) (number : ℕ) (old new : List ℕ) (fault : Fault) → IsPlan text base lines number → MakesUntil base number (lines_of lines) old new fault → StopsAt text old new fault
 stops-later text lines base number old new fault plan makes = record {
   h = makes.h;
   fails = record {
@@ -59,7 +64,7 @@ stops-later text lines base number old new fault plan makes = record {
   written = makes.written;
 }
 
-pub cuts-off : (text lines : List ℕ) (base : SettingsAt) (number : ℕ) (old new : Option (List ℕ)) → IsPlan text base lines number → MakesSome base (lines_of lines) old new → CutsOffText text old new
+pub cuts-off : (text lines : List ℕ) (base : SettingsAt) (number : ℕ) (old new : List ℕ) → IsPlan text base lines number → MakesSome base (lines_of lines) old new → CutsOffText text old new
 cuts-off text lines base number old new plan makes = record {
   h = makes.h;
   begins = inr (record {
@@ -75,16 +80,16 @@ cuts-off text lines base number old new plan makes = record {
 }
 
 -- nothing was written yet
-pub nothing-written : (text : List ℕ) (old : Option (List ℕ)) → CutsOffSome text old old
+pub nothing-written : (text : List ℕ) (old : List ℕ) → CutsOffSome text old old
 nothing-written text old = inl (record {
   h = [];
   begins = inl refl;
-  lawful = good-lawful [] good-start;
+  lawful = good-lawful [] good-start (λ w k served. served);
   written = adds-none [] old;
 })
 
 -- the fault of a line is written in part, and whole
-pub fault-cut : (text : List ℕ) (old now new : Option (List ℕ)) (fault : Fault) → StopsAt text old now fault → AddsPrefix (fault_text fault) now new → CutsOffSome text old new
+pub fault-cut : (text : List ℕ) (old now new : List ℕ) (fault : Fault) → StopsAt text old now fault → AddsPrefix (fault_text fault) now new → CutsOffSome text old new
 fault-cut text old now new fault stops written = inr (inl (record {
   h = stops.h;
   fault = fault;
@@ -93,7 +98,7 @@ fault-cut text old now new fault stops written = inr (inl (record {
   written = adds-prefix (text_of stops.h) (fault_text fault) old now new stops.written written;
 }))
 
-pub fault-written : (text : List ℕ) (old now new : Option (List ℕ)) (fault : Fault) → StopsAt text old now fault → Adds (fault_text fault) now new → RefusesText text old new
+pub fault-written : (text : List ℕ) (old now new : List ℕ) (fault : Fault) → StopsAt text old now fault → Adds (fault_text fault) now new → RefusesText text old new
 fault-written text old now new fault stops written = record {
   h = stops.h;
   fault = fault;

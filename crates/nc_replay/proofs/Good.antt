@@ -1,5 +1,5 @@
 -- A history whose messages go each to subscribers of one channel, and how it goes on.
-use Rattle.std.proofs.Common.{◌≡◌, ◌⊎◌, inl, inr, ℕ, ℤ, zero, suc, ◌<◌, Bool, true, false, cond, not, ◌==◌, ◌-◌, ◌||◌, ◌&&◌, List, [], ◌∷◌, ◌++◌, length, refl, sym, subst, arith, Option, Some, slice_get, slice_set, negsuc, true≢false}
+use Rattle.std.proofs.Common.{◌≡◌, ◌⊎◌, inl, inr, ℕ, ℤ, zero, suc, ◌<◌, Bool, true, false, cond, not, ◌==◌, ◌-◌, ◌||◌, ◌&&◌, List, [], ◌∷◌, ◌++◌, length, refl, sym, ◌∙◌, subst, arith, Option, Some, slice_get, slice_set, negsuc, true≢false}
 use Rattle.std.specs.List.{AllByRecursion}
 use Rattle.std.proofs.lemmas.Bool.{cond_both}
 use Rattle.nc_types.specs.Id.{Id, IsPast, id_eq}
@@ -7,14 +7,15 @@ use Rattle.nc_types.specs.Cursor.{CursorAt, cursor_id, cursor_of, moved}
 use Rattle.nc_types.specs.Channel.{owner_of, name_eq}
 use Rattle.std.specs.Cmp.Lexicographic.{same_text}
 use Rattle.nc_journal.specs.declared.event.Event.{Event}
-use Rattle.nc_journal.specs.declared.event.Event.TheVariants.{Stored, Left, Sent, Looked}
+use Rattle.nc_journal.specs.declared.event.Event.TheVariants.{Started, Stored, Left, Sent, Looked}
 use Rattle.nc_journal.specs.declared.word.LeftCause.TheVariants.{Length}
 use Rattle.nc_journal.specs.History.{own, Along, AtEachCut}
 use Rattle.nc_journal.specs.Stamp.{StampedAt, IsStamped}
 use Rattle.nc_journal.specs.Message.{Message, message_of, published, buffer, is_gone, lets_go}
-use Rattle.nc_journal.specs.Standing.{Standing, stage_of, OrderedAt, IsStandingRule}
-use Rattle.nc_journal.specs.Sending.{HasId, IsSpared, RestsOnLook, IsSentFrom, SentAt, StartedAt, IsStartedLawfully, QuietAt, IsQuietRule}
-use Rattle.nc_journal.specs.Leaving.{IsFirst, MakesWay, LeftAt, FindsAt}
+use Rattle.nc_types.specs.declared.start.Start.TheVariants.{Oldest, Newest, Given}
+use Rattle.nc_journal.specs.Standing.{Stage, Absent, Starting, Standing, Served, Over, stage_of, OrderedAt, AreOrdered, SubscribesAt, NobodyServed}
+use Rattle.nc_journal.specs.Sending.{HasId, IsSpared, RestsOnLook, IsSentFrom, SentAt, StartsFrom, StartedAt, IsStartedLawfully, QuietAt, IsQuietRule}
+use Rattle.nc_journal.specs.Leaving.{StandsFirst, MakesWay, LeftAt, FindsAt}
 use Rattle.nc_journal.specs.Lawful.{IsLawful}
 use Rattle.nc_journal.proofs.Cuts.{cut-push, cut-turn, cut-weaker, all-weaker, all-append}
 use Rattle.nc_journal.proofs.Leavings.{id_eq-same, past-irreflexive, left-more}
@@ -52,30 +53,32 @@ Keeps h _ = Unit {0}
 -- a good history, but for how messages leave: at each cut they are in this relation
 pub record IsGoodBut (P : List Event → Event → List Event → Type 0) (h : List Event) : Type 0 where
   pub stamped : IsStamped 1 h
-  pub standing : IsStandingRule h
+  pub ordered : AreOrdered h
+  pub subscribed : Along SubscribesAt h
   pub sent : AtEachCut SentToOneAt h
-  pub started : IsStartedLawfully h
+  pub started : IsStartedLawfully 1 h
   pub quiet : IsQuietRule h
   pub gone : (c : List ℕ) (id : Id) → is_gone c id h ≡ true → HasId (published c h) id
   pub left : AtEachCut P h
   pub finds : Along FindsAt h
 
 abbrev pub IsGood : List Event → Type 0
-IsGood h = IsGoodBut LeftAt h
+IsGood h = IsGoodBut (LeftAt 1) h
 
 -- what the next event has to keep
 pub record IsNextBut (P : List Event → Event → List Event → Type 0) (h : List Event) (e : Event) : Type 0 where
   pub stamped : StampedAt 1 h e
   pub ordered : OrderedAt h e
+  pub subscribed : SubscribesAt h e
   pub sent : SentToOneAt [] e h
-  pub started : StartedAt h e
+  pub started : StartedAt 1 [] e h
   pub quiet : QuietAt h e
   pub keeps : Keeps h e
   pub left : P [] e h
   pub finds : FindsAt h e
 
 abbrev pub IsNext : List Event → Event → Type 0
-IsNext h e = IsNextBut LeftAt h e
+IsNext h e = IsNextBut (LeftAt 1) h e
 
 or-true : (a b : Bool) → (a || b) ≡ true → (a ≡ true) ⊎ (b ≡ true)
 or-true true b is = inl refl
@@ -152,14 +155,29 @@ sent-goes-on h e stamped at newer (Sent w k i c id cur looks) older is sent =
     }
 sent-goes-on h e stamped at newer _ older is sent = tt
 
+-- where a subscriber starts stays as it is, whatever comes later
+starts-more : (w k : ℕ) (cur : CursorAt) (e : Event) (newer older : List Event) (stage : Stage) → StartsFrom 1 w k cur newer older stage → StartsFrom 1 w k cur (e ∷ newer) older stage
+starts-more w k cur e newer older (Starting list once Oldest) starts = starts
+starts-more w k cur e newer older (Starting list once Newest) starts = starts
+starts-more w k cur e newer older (Starting list once (Given from)) starts = starts
+starts-more w k cur e newer older Absent starts = starts
+starts-more w k cur e newer older (Standing list once now) starts = starts
+starts-more w k cur e newer older (Served list now) starts = starts
+starts-more w k cur e newer older Over starts = starts
+
+started-goes-on : (e : Event) (newer : List Event) (x : Event) (older : List Event) → StartedAt 1 newer x older → StartedAt 1 (e ∷ newer) x older
+started-goes-on e newer (Started w k cur) older at = starts-more w k cur e newer older (stage_of k (own w older)) at
+started-goes-on e newer _ older at = tt
+
 -- a good history goes on, where the cuts so far turn from one relation into another
 pub good-turn : (P Q : List Event → Event → List Event → Type 0) (h : List Event) (e : Event) → IsGoodBut P h → IsNextBut Q h e
     → ((newer : List Event) (x : Event) (older : List Event) → h ≡ newer ++ x ∷ older → P newer x older → Q (e ∷ newer) x older) → IsGoodBut Q (e ∷ h)
 good-turn P Q h e good next turns = record {
   stamped = (good.stamped, next.stamped);
-  standing = (good.standing, next.ordered);
+  ordered = (good.ordered, next.ordered);
+  subscribed = (good.subscribed, next.subscribed);
   sent = cut-push SentToOneAt h e good.sent next.sent (sent-goes-on h e good.stamped next.stamped);
-  started = (good.started, next.started);
+  started = cut-push (StartedAt 1) h e good.started next.started (λ newer x older is. started-goes-on e newer x older);
   quiet = (good.quiet, next.quiet);
   gone = λ c id. gone-published c id e h next.keeps (good.gone c id);
   left = cut-turn P Q h e good.left next.left turns;
@@ -167,63 +185,71 @@ good-turn P Q h e good next turns = record {
 }
 
 pub good-push : (h : List Event) (e : Event) → IsGood h → IsNext h e → IsGood (e ∷ h)
-good-push h e good next = good-turn LeftAt LeftAt h e good next (λ newer x older is at. left-more e newer x older at)
+good-push h e good next = good-turn (LeftAt 1) (LeftAt 1) h e good next (λ newer x older is at. left-more 1 e newer x older at)
+
+-- the one worker owns every channel
+pub owner-one : (c : List ℕ) → owner_of 1 c ≡ 0
+owner-one c = omega arith
 
 -- a message leaves by length as room is made for one of length len that is to be stored next on channel c
 abbrev pub Clearing : List ℕ → ℕ → List Event → Event → List Event → Type 0
-Clearing c len newer (Left w d id slot Length) older = (w ≡ 0) × (d ≡ c) × IsFirst (buffer d older) id slot × (len - 1 < length (buffer d older)) × AllByRecursion MakesWay (own w newer)
+Clearing c len newer (Left w d id slot Length) older = (w ≡ 0) × (d ≡ c) × StandsFirst (buffer d older) id slot × (len - 1 < length (buffer d older)) × AllByRecursion MakesWay (own w newer)
 Clearing c len newer _ older = ⊥
 
 -- a message left by the rule, or room is made
 abbrev pub LeavesOrClears : List ℕ → ℕ → List Event → Event → List Event → Type 0
-LeavesOrClears c len newer x older = LeftAt newer x older ⊎ Clearing c len newer x older
+LeavesOrClears c len newer x older = LeftAt 1 newer x older ⊎ Clearing c len newer x older
 
 clearing-more : (c : List ℕ) (len : ℕ) (id : Id) (slot : ℕ) (newer : List Event) (x : Event) (older : List Event) → Clearing c len newer x older → Clearing c len (Left 0 c id slot Length ∷ newer) x older
 clearing-more c len id slot newer (Left w d m place Length) older at = (at.0, at.1, at.2, at.3, cond_both (w == 0) (Left 0 c id slot Length ∷ own w newer) (own w newer) (AllByRecursion MakesWay) (λ _. (tt, at.4)) (λ _. at.4))
 clearing-more c len id slot newer x older at = absurd at
 
 pub clears-more : (c : List ℕ) (len : ℕ) (id : Id) (slot : ℕ) (newer : List Event) (x : Event) (older : List Event) → LeavesOrClears c len newer x older → LeavesOrClears c len (Left 0 c id slot Length ∷ newer) x older
-clears-more c len id slot newer x older (inl at) = inl (left-more (Left 0 c id slot Length) newer x older at)
+clears-more c len id slot newer x older (inl at) = inl (left-more 1 (Left 0 c id slot Length) newer x older at)
 clears-more c len id slot newer x older (inr at) = inr (clearing-more c len id slot newer x older at)
 
 -- once the message is stored that room was made for, those that made it have left by the rule
-cleared : (c : List ℕ) (len : ℕ) (id : Id) (slot exp : ℕ) (kept : Bool) (members from r : ℕ) (ct : Option (List ℕ)) (body : List ℕ) (newer : List Event) (x : Event) (older : List Event) → Clearing c len newer x older → LeftAt (Stored 0 c id slot len exp kept members from r ct body ∷ newer) x older
-cleared c len id slot exp kept members from r ct body newer (Left w d m place Length) older at = (
-  at.2,
-  record {
-    after = [];
-    id = id;
-    slot = slot;
-    len = len;
-    exp = exp;
-    kept = kept;
-    members = members;
-    from = from;
-    r = r;
-    ct = ct;
-    body = body;
-    between = newer;
-    next = rw (at.0, at.1) refl;
-    way = at.4;
-    full = at.3;
-  },
-)
+cleared : (c : List ℕ) (len : ℕ) (id : Id) (slot exp : ℕ) (kept : Bool) (members from r : ℕ) (ct : Option (List ℕ)) (body : List ℕ) (newer : List Event) (x : Event) (older : List Event) → Clearing c len newer x older → LeftAt 1 (Stored 0 c id slot len exp kept members from r ct body ∷ newer) x older
+cleared c len id slot exp kept members from r ct body newer (Left w d m place Length) older at = record {
+  owner = at.0 ∙ sym (owner-one d);
+  why = (
+    at.2,
+    record {
+      after = [];
+      id = id;
+      slot = slot;
+      len = len;
+      exp = exp;
+      kept = kept;
+      members = members;
+      from = from;
+      r = r;
+      ct = ct;
+      body = body;
+      between = newer;
+      next = rw (at.0, at.1) refl;
+      way = at.4;
+      full = at.3;
+    },
+  );
+}
 cleared c len id slot exp kept members from r ct body newer x older at = absurd at
 
-pub left-cleared : (c : List ℕ) (len : ℕ) (id : Id) (slot exp : ℕ) (kept : Bool) (members from r : ℕ) (ct : Option (List ℕ)) (body : List ℕ) (newer : List Event) (x : Event) (older : List Event) → LeavesOrClears c len newer x older → LeftAt (Stored 0 c id slot len exp kept members from r ct body ∷ newer) x older
-left-cleared c len id slot exp kept members from r ct body newer x older (inl at) = left-more (Stored 0 c id slot len exp kept members from r ct body) newer x older at
+pub left-cleared : (c : List ℕ) (len : ℕ) (id : Id) (slot exp : ℕ) (kept : Bool) (members from r : ℕ) (ct : Option (List ℕ)) (body : List ℕ) (newer : List Event) (x : Event) (older : List Event) → LeavesOrClears c len newer x older → LeftAt 1 (Stored 0 c id slot len exp kept members from r ct body ∷ newer) x older
+left-cleared c len id slot exp kept members from r ct body newer x older (inl at) = left-more 1 (Stored 0 c id slot len exp kept members from r ct body) newer x older at
 left-cleared c len id slot exp kept members from r ct body newer x older (inr at) = cleared c len id slot exp kept members from r ct body newer x older at
 
 -- a good history is good but for what clears
 pub good-clears : (c : List ℕ) (len : ℕ) (h : List Event) → IsGood h → IsGoodBut (LeavesOrClears c len) h
 good-clears c len h good = record {
   stamped = good.stamped;
-  standing = good.standing;
+  ordered = good.ordered;
+  subscribed = good.subscribed;
   sent = good.sent;
   started = good.started;
   quiet = good.quiet;
   gone = good.gone;
-  left = cut-weaker LeftAt (LeavesOrClears c len) h (λ newer x older is at. inl at) good.left;
+  left = cut-weaker (LeftAt 1) (LeavesOrClears c len) h (λ newer x older is at. inl at) good.left;
   finds = good.finds;
 }
 
@@ -237,9 +263,6 @@ fresh-stays P c id h good past = by_test (is_gone c id h) refl
 
 abbrev cursor_at : ℕ → List ℤ → CursorAt
 cursor_at t tags = record { time = t; tags = tags }
-
-pub owner-one : (c : List ℕ) → owner_of 1 c ≡ 0
-owner-one c = omega arith
 
 pub moved-one : (from id : Id) → moved (cursor_of from) 0 id ≡ cursor_of id
 moved-one from id = by_time (id.time == from.time)
@@ -287,11 +310,11 @@ sent-at : (newer : List Event) (x : Event) (older : List Event) → SentToOneAt 
 sent-at newer (Sent w k i c id cur looks) older h = rw (h.stands, h.place, h.moves, h.rests) (sent-from newer older w k i c id cur looks h)
 sent-at newer _ older h = tt
 
-pub good-lawful : (h : List Event) → IsGood h → IsLawful 1 h
-good-lawful h good = record {
+pub good-lawful : (h : List Event) → IsGood h → NobodyServed h → IsLawful 1 h
+good-lawful h good nobody = record {
   stamped = good.stamped;
   leaving = record { left = good.left; finds = good.finds };
-  standing = good.standing;
+  standing = record { ordered = good.ordered; subscribed = good.subscribed; ended = nobody };
   sent = cut-weaker SentToOneAt (SentAt 1) h (λ newer x older is sent. sent-at newer x older sent) good.sent;
   started = good.started;
   quiet = good.quiet;
@@ -300,9 +323,10 @@ good-lawful h good = record {
 pub good-start : IsGood []
 good-start = record {
   stamped = tt;
-  standing = tt;
+  ordered = tt;
+  subscribed = tt;
   sent = λ newer x older is. absurd (none-cut newer x older is);
-  started = tt;
+  started = λ newer x older is. absurd (none-cut newer x older is);
   quiet = tt;
   gone = λ c id is. absurd (true≢false (sym is));
   left = λ newer x older is. absurd (none-cut newer x older is);

@@ -3,7 +3,7 @@ pub mod Flows
 pub mod Channels
 pub mod Put
 pub mod Leaves
-pub mod Calls
+pub mod EngineCalls
 pub mod Good
 pub mod Room
 pub mod Stand
@@ -17,4 +17,5 @@ pub mod Parted
 pub mod Ends
 mod Verdicts
 mod OneFront
+mod OneEnd
 mod Always

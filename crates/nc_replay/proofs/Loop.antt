@@ -1,6 +1,5 @@
 -- What is known between two lines of a script while they are made.
-use Rattle.std.proofs.Common.{◌≡◌, ℕ, ◌+◌, ◌<◌, ◌≤◌, Bool, true, false, cond, not, ◌==◌, ◌||◌, List, [], ◌∷◌, ◌++◌, length, map, refl, sym, ◌∙◌, subst, ap, arith, Option, Some, None, Result, Ok, Err, append_assoc, length-append}
-use Rattle.std.specs.Prelude.{OnErr}
+use Rattle.std.proofs.Common.{◌≡◌, ℕ, ◌+◌, ◌<◌, ◌≤◌, Bool, true, false, cond, not, ◌==◌, ◌||◌, List, [], ◌∷◌, ◌++◌, length, map, refl, sym, ◌∙◌, subst, ap, arith, Option, Some, None, append_assoc, length-append}
 use Rattle.std.specs.List.{flat_map}
 use Rattle.std.proofs.lemmas.List.{append-nil}
 use Rattle.std.proofs.lemmas.List.Folds.{list_any-append}
@@ -15,26 +14,27 @@ use Rattle.nc_journal.specs.declared.event.Event.TheVariants.{Stored, Looked, Qu
 use Rattle.nc_journal.specs.declared.word.LeftCause.{LeftCause}
 use Rattle.nc_journal.specs.declared.word.LeftCause.TheVariants.{Length, Expired}
 use Rattle.nc_buffer.specs.declared.entry.Entry.{Entry}
-use Rattle.nc_replay.specs.declared.engine.Channel.{Channel}
+use Rattle.nc_replay.specs.declared.channel.Channel.{Channel}
 use Rattle.nc_journal.proofs.Cuts.{onto-append}
 use Rattle.nc_journal.proofs.TextLaws.{text_grows}
 use Rattle.nc_types.specs.Cursor.{CursorAt, cursor_of}
-use Rattle.nc_replay.specs.declared.engine.Waiting.{Waiting}
+use Rattle.nc_replay.specs.declared.waiting.Waiting.{Waiting}
 use Rattle.nc_script.specs.declared.line.Line.{Line}
 use Rattle.nc_script.specs.declared.line.Line.TheVariants.{Blank, Clock, Reap, Post, Poll}
 use Rattle.nc_replay.specs.declared.fault.Fault.{Fault}
 use Rattle.nc_replay.specs.Script.{lines_of}
-use Rattle.nc_replay.specs.Told.{line_after, Tells, Leads, sends, start_id}
-use Rattle.nc_replay.specs.Machine.{State, start, events_of, after, Fits, sends_waiting, entry_left, expired_of, staying_of, surplus_of, channel_left, first_id, channel_of, next_stamp, found_events, begins}
+use Rattle.nc_replay.specs.LineEvents.{line_after, LineTells, Leads, sends, start_id}
+use Rattle.nc_replay.specs.Machine.{State, start, events_of, after, NumbersFit, sends_waiting, entry_left, expired_of, staying_of, surplus_of, channel_left, first_id, channel_of, next_stamp, found_events, begins}
 use Rattle.nc_replay.specs.Input.{Adds, AddsPrefix}
 use Rattle.nc_replay.specs.Run.{is_among, used_after, new_line, MakesAll, MakesUntil, MakesSome}
+use Rattle.nc_replay.proofs.Flows.{adds-nothing, adds-more, adds-prefix, adds-whole}
 use Rattle.nc_replay.proofs.Said.{new-after, breaks-after}
 use Rattle.nc_replay.proofs.Good.{good-lawful}
-use Rattle.nc_replay.proofs.Stand.{StandsFor, stands-start}
+use Rattle.nc_replay.proofs.Stand.{StandsFor, stands-start, nobody-served}
 use Rattle.nc_replay.proofs.Step.{HasCome, IsWithin, makes-line, come-start, come-fits}
 
 -- between two lines: what was made of all lines, and what stands behind them
-pub record Made (base : SettingsAt) (before : ℕ) (first now : Option (List ℕ)) (all : List (List ℕ)) (s : State) (used : List ℕ) (number : ℕ) (rest : List ℕ) (most : ℕ) : Type 0 where
+pub record Made (base : SettingsAt) (before : ℕ) (first now : List ℕ) (all : List (List ℕ)) (s : State) (used : List ℕ) (number : ℕ) (rest : List ℕ) (most : ℕ) : Type 0 where
   pub h : List Event
   pub made : List (List ℕ)
   pub cut : all ≡ made ++ lines_of rest
@@ -47,32 +47,10 @@ pub record Made (base : SettingsAt) (before : ℕ) (first now : Option (List ℕ
   pub room : length made + length rest ≤ most
   pub written : Adds (text_of h) first now
 
-pub adds-nothing : (taken : Option (List ℕ)) → Adds [] taken taken
-adds-nothing None = refl
-adds-nothing (Some bytes) = ap (λ (l : List ℕ). Some l) (sym (append-nil bytes))
-
-pub adds-more : (text more : List ℕ) (first now new : Option (List ℕ)) → Adds text first now → Adds more now new → Adds (text ++ more) first new
-adds-more text more None now new h k = subst (λ (o : Option (List ℕ)). Adds more o new) h k
-adds-more text more (Some bytes) now new h k = subst (λ (o : Option (List ℕ)). Adds more o new) h k ∙ ap (λ (l : List ℕ). Some l) (append_assoc bytes text more)
-
-pub adds-prefix : (text more : List ℕ) (first now new : Option (List ℕ)) → Adds text first now → AddsPrefix more now new → AddsPrefix (text ++ more) first new
-adds-prefix text more first now new h k =
-    let before = k.1 in (
-      k.0,
-      record {
-        piece = text ++ before.piece;
-        cut = ap (λ (l : List ℕ). text ++ l) before.cut ∙ sym (append_assoc text before.piece k.0);
-        added = adds-more text before.piece first now new h before.added;
-      },
-    )
-
-pub adds-whole : (text : List ℕ) (first now : Option (List ℕ)) → Adds text first now → AddsPrefix text first now
-adds-whole text first now h = ([], record { piece = text; cut = sym (append-nil text); added = h })
-
 -- one more line is made
-leads-more : (base : SettingsAt) (h : List Event) (made : List (List ℕ)) (after : List Event) (text : List ℕ) (line : Line) (es : List Event) → Leads base h made after → (line_after after text).Says line → Tells base after line es → Leads base h (made ++ text ∷ []) (onto es after)
+leads-more : (base : SettingsAt) (h : List Event) (made : List (List ℕ)) (after : List Event) (text : List ℕ) (line : Line) (es : List Event) → Leads base h made after → (line_after after text).Says line → LineTells base after line es → Leads base h (made ++ text ∷ []) (onto es after)
 leads-more base h [] after text line es leads says tells =
-    (line, es, subst (λ (l : List Event). (line_after l text).Says line) leads says, subst (λ (l : List Event). Tells base l line es) leads tells, ap (onto es) leads)
+    (line, es, subst (λ (l : List Event). (line_after l text).Says line) leads says, subst (λ (l : List Event). LineTells base l line es) leads tells, ap (onto es) leads)
 leads-more base h (first ∷ made) after text line es leads says tells =
     (leads.0, leads.1, leads.2, leads.3, leads-more base (onto leads.1 h) made after text line es leads.4 says tells)
 
@@ -146,7 +124,7 @@ used-after-line (Poll w n (c ∷ cs) begin) s used h within is k =
     ∙ subscribed-found k n c s.polls found (look ∷ onto left begun)
     ∙ none-subscribed-left k c Expired (expired_of s.clock channel.buffer) begun)
 
-made-start : (base : SettingsAt) (before : ℕ) (first : Option (List ℕ)) (text : List ℕ) → Made base before first first (lines_of text) (start base) [] (before + 1) text (length text)
+made-start : (base : SettingsAt) (before : ℕ) (first : List ℕ) (text : List ℕ) → Made base before first first (lines_of text) (start base) [] (before + 1) text (length text)
 made-start base before first text = record {
   h = [];
   made = [];
@@ -162,20 +140,20 @@ made-start base before first text = record {
 }
 
 -- the same by equal states and numbers
-pub made-as : (base : SettingsAt) (before : ℕ) (first now : Option (List ℕ)) (all : List (List ℕ)) (s t : State) (used later : List ℕ) (number : ℕ) (rest : List ℕ) (most : ℕ) → t ≡ s → later ≡ used → Made base before first now all s used number rest most → Made base before first now all t later number rest most
+pub made-as : (base : SettingsAt) (before : ℕ) (first now : List ℕ) (all : List (List ℕ)) (s t : State) (used later : List ℕ) (number : ℕ) (rest : List ℕ) (most : ℕ) → t ≡ s → later ≡ used → Made base before first now all s used number rest most → Made base before first now all t later number rest most
 made-as base before first now all s t used later number rest most is are made = rw (is, are) made
 
-pub made-begins : (base : SettingsAt) (before : ℕ) (first : Option (List ℕ)) (text : List ℕ) (s : State) (used : List ℕ) → s ≡ start base → used ≡ [] → Made base before first first (lines_of text) s used (before + 1) text (length text)
+pub made-begins : (base : SettingsAt) (before : ℕ) (first : List ℕ) (text : List ℕ) (s : State) (used : List ℕ) → s ≡ start base → used ≡ [] → Made base before first first (lines_of text) s used (before + 1) text (length text)
 made-begins base before first text s used is are = rw (is, are) (made-start base before first text)
 
-pub made-fits : (base : SettingsAt) (before : ℕ) (first now : Option (List ℕ)) (all : List (List ℕ)) (s : State) (used : List ℕ) (number : ℕ) (rest : List ℕ) (most : ℕ) → most ≤ 67108864 → Made base before first now all s used number rest most → Fits s
+pub made-fits : (base : SettingsAt) (before : ℕ) (first now : List ℕ) (all : List (List ℕ)) (s : State) (used : List ℕ) (number : ℕ) (rest : List ℕ) (most : ℕ) → most ≤ 67108864 → Made base before first now all s used number rest most → NumbersFit s
 made-fits base before first now all s used number rest most le made = come-fits s made.h (length made.made) (omega (arith, made.room)) made.stands made.come
 
 length-snoc : (made : List (List ℕ)) (text : List ℕ) → length (made ++ text ∷ []) ≡ length made + 1
 length-snoc made text = length-append made (text ∷ [])
 
 -- a line was made and its events were written
-pub made-next : (base : SettingsAt) (before : ℕ) (first now new : Option (List ℕ)) (all : List (List ℕ)) (s : State) (used : List ℕ) (number : ℕ) (rest : List ℕ) (most : ℕ) (text behind : List ℕ) (line : Line) → most ≤ 67108864
+pub made-next : (base : SettingsAt) (before : ℕ) (first now new : List ℕ) (all : List (List ℕ)) (s : State) (used : List ℕ) (number : ℕ) (rest : List ℕ) (most : ℕ) (text behind : List ℕ) (line : Line) → most ≤ 67108864
     → lines_of rest ≡ text ∷ lines_of behind → length behind < length rest → (new_line used text).Says line → Adds (lines_text (events_of line s)) now new
     → Made base before first now all s used number rest most → Made base before first new all (after line s) (used_after line used) (number + 1) behind most
 made-next base before first now new all s used number rest most text behind line le cut shorter says written made =
@@ -186,7 +164,7 @@ made-next base before first now new all s used number rest most text behind line
       h = onto (events_of line s) made.h;
       made = made.made ++ text ∷ [];
       cut = made.cut ∙ ap (λ (l : List (List ℕ)). made.made ++ l) cut ∙ sym (append_assoc made.made (text ∷ []) (lines_of behind));
-      leads = leads-more base [] made.made made.h text line (events_of line s) made.leads after-new.says (subst (λ (b : SettingsAt). Tells b made.h line (events_of line s)) made.settings makes.tells);
+      leads = leads-more base [] made.made made.h text line (events_of line s) made.leads after-new.says (subst (λ (b : SettingsAt). LineTells b made.h line (events_of line s)) made.settings makes.tells);
       settings = makes.base ∙ made.settings;
       stands = makes.stands;
       come = subst (HasCome (after line s)) (sym (length-snoc made.made text)) makes.come;
@@ -197,17 +175,17 @@ made-next base before first now new all s used number rest most text behind line
     }
 
 -- no line is left
-pub made-whole : (base : SettingsAt) (before : ℕ) (first now : Option (List ℕ)) (all : List (List ℕ)) (s : State) (used : List ℕ) (number : ℕ) (rest : List ℕ) (most : ℕ) → length rest ≡ 0 → Made base before first now all s used number rest most → MakesAll base all first now
+pub made-whole : (base : SettingsAt) (before : ℕ) (first now : List ℕ) (all : List (List ℕ)) (s : State) (used : List ℕ) (number : ℕ) (rest : List ℕ) (most : ℕ) → length rest ≡ 0 → Made base before first now all s used number rest most → MakesAll base all first now
 made-whole base before first now all s used number [] most end made = record {
   h = made.h;
   leads = subst (λ (l : List (List ℕ)). Leads base [] l made.h) (sym (made.cut ∙ append-nil made.made)) made.leads;
-  lawful = good-lawful made.h made.stands.good;
+  lawful = good-lawful made.h made.stands.good (nobody-served s made.h made.stands);
   written = made.written;
 }
 made-whole base before first now all s used number (b ∷ rest) most end made = absurd (omega arith)
 
 -- the next line breaks a rule
-pub made-fault : (base : SettingsAt) (before : ℕ) (first now : Option (List ℕ)) (all : List (List ℕ)) (s : State) (used : List ℕ) (number : ℕ) (rest : List ℕ) (most : ℕ) (text behind : List ℕ) (fault : Fault)
+pub made-fault : (base : SettingsAt) (before : ℕ) (first now : List ℕ) (all : List (List ℕ)) (s : State) (used : List ℕ) (number : ℕ) (rest : List ℕ) (most : ℕ) (text behind : List ℕ) (fault : Fault)
     → lines_of rest ≡ text ∷ lines_of behind → fault.line ≡ number → (new_line used text).Breaks fault.rule fault.at → Made base before first now all s used number rest most → MakesUntil base before all first now fault
 made-fault base before first now all s used number rest most text behind fault cut counted breaks made = record {
   h = made.h;
@@ -218,24 +196,24 @@ made-fault base before first now all s used number rest most text behind fault c
   leads = made.leads;
   breaks = breaks-after used made.h text fault.rule fault.at made.among breaks;
   counted = counted ∙ made.counted;
-  lawful = good-lawful made.h made.stands.good;
+  lawful = good-lawful made.h made.stands.good (nobody-served s made.h made.stands);
   written = made.written;
 }
 
 -- the work stops between two lines
-pub made-some : (base : SettingsAt) (before : ℕ) (first now : Option (List ℕ)) (all : List (List ℕ)) (s : State) (used : List ℕ) (number : ℕ) (rest : List ℕ) (most : ℕ) → Made base before first now all s used number rest most → MakesSome base all first now
+pub made-some : (base : SettingsAt) (before : ℕ) (first now : List ℕ) (all : List (List ℕ)) (s : State) (used : List ℕ) (number : ℕ) (rest : List ℕ) (most : ℕ) → Made base before first now all s used number rest most → MakesSome base all first now
 made-some base before first now all s used number rest most made = record {
   h = made.h;
   made = made.made;
   rest = lines_of rest;
   cut = made.cut;
   leads = made.leads;
-  lawful = good-lawful made.h made.stands.good;
+  lawful = good-lawful made.h made.stands.good (nobody-served s made.h made.stands);
   written = adds-whole (text_of made.h) first now made.written;
 }
 
 -- the work stops while the events of a line are written
-pub made-cut : (base : SettingsAt) (before : ℕ) (first now new : Option (List ℕ)) (all : List (List ℕ)) (s : State) (used : List ℕ) (number : ℕ) (rest : List ℕ) (most : ℕ) (text behind : List ℕ) (line : Line) → most ≤ 67108864
+pub made-cut : (base : SettingsAt) (before : ℕ) (first now new : List ℕ) (all : List (List ℕ)) (s : State) (used : List ℕ) (number : ℕ) (rest : List ℕ) (most : ℕ) (text behind : List ℕ) (line : Line) → most ≤ 67108864
     → lines_of rest ≡ text ∷ lines_of behind → (new_line used text).Says line → AddsPrefix (lines_text (events_of line s)) now new
     → Made base before first now all s used number rest most → MakesSome base all first new
 made-cut base before first now new all s used number rest most text behind line le cut says written made =
@@ -247,14 +225,10 @@ made-cut base before first now new all s used number rest most text behind line 
       made = made.made ++ text ∷ [];
       rest = lines_of behind;
       cut = made.cut ∙ ap (λ (l : List (List ℕ)). made.made ++ l) cut ∙ sym (append_assoc made.made (text ∷ []) (lines_of behind));
-      leads = leads-more base [] made.made made.h text line (events_of line s) made.leads after-new.says (subst (λ (b : SettingsAt). Tells b made.h line (events_of line s)) made.settings makes.tells);
-      lawful = good-lawful (onto (events_of line s) made.h) makes.stands.good;
+      leads = leads-more base [] made.made made.h text line (events_of line s) made.leads after-new.says (subst (λ (b : SettingsAt). LineTells b made.h line (events_of line s)) made.settings makes.tells);
+      lawful = good-lawful (onto (events_of line s) made.h) makes.stands.good (nobody-served (after line s) (onto (events_of line s) made.h) makes.stands);
       written = subst (λ (l : List ℕ). AddsPrefix l first new) (sym (text_grows (events_of line s) made.h)) (adds-prefix (text_of made.h) (lines_text (events_of line s)) first now new made.written written);
     }
-
-pub always-err : {T E : Type 0} (r : Result T E) (P : Type 0) → P → OnErr r P
-always-err (Ok x) P p = tt
-always-err (Err e) P p = p
 
 -- the text that was written is that of the line's events
 pub text-made : (s : State) (line : Line) (events : List Event) (items slice : List ℕ) → events ≡ events_of line s → items ≡ lines_text events → slice ≡ items → slice ≡ lines_text (events_of line s)

@@ -6,7 +6,7 @@ use Rattle.std.proofs.lemmas.Bool.{eqb-true, eqb-false}
 use Rattle.std.proofs.lemmas.List.{flat_map_more, drop_all}
 use Rattle.std.proofs.lemmas.List.Sums.{split_at_first, passes_at_first}
 use Rattle.nc_journal.proofs.Cuts.{all-append}
-use Rattle.nc_replay.specs.Script.{lines_of, rule_line, ended, text_of, HasRule, LacksRule, IsBefore}
+use Rattle.nc_replay.specs.Script.{lines_of, rule_line, ended, text_of_lines, HasRule, LacksRule, IsConfigLine}
 use Rattle.nc_replay.proofs.Cuts.{first_and_rest}
 
 -- a text whose first line is the line `---`
@@ -45,8 +45,8 @@ nothing-behind text past = drop_all (position_or_len (λ b. b == 10) text + 1) t
 -- while the lines before the line `---` are gone over
 pub record SoFar (script rest : List ℕ) (count : ℕ) : Type 0 where
   pub before : List (List ℕ)
-  pub cut : script ≡ text_of before ++ rest
-  pub each : AllByRecursion IsBefore before
+  pub cut : script ≡ text_of_lines before ++ rest
+  pub each : AllByRecursion IsConfigLine before
   pub counted : count ≡ length before
 
 pub so-far-start : (script : List ℕ) → SoFar script script 0
@@ -58,8 +58,8 @@ one-line script rest count some not is so =
     let behind = after_first (λ b. b == 10) rest in
     record {
       before = so.before ++ line ∷ [];
-      cut = so.cut ∙ ap (λ (r : List ℕ). text_of so.before ++ r) is ∙ sym (append_assoc (text_of so.before) (ended line) behind) ∙ ap (λ (t : List ℕ). t ++ behind) (flat_map_more ended [] so.before line);
-      each = all-append IsBefore so.before (line ∷ []) so.each (record { whole = no-lf rest; other = λ same. not (some, same) }, tt);
+      cut = so.cut ∙ ap (λ (r : List ℕ). text_of_lines so.before ++ r) is ∙ sym (append_assoc (text_of_lines so.before) (ended line) behind) ∙ ap (λ (t : List ℕ). t ++ behind) (flat_map_more ended [] so.before line);
+      each = all-append IsConfigLine so.before (line ∷ []) so.each (record { whole = no-lf rest; other = λ same. not (some, same) }, tt);
       counted = omega (arith, so.counted, length-append so.before (line ∷ []));
     }
 

@@ -1,5 +1,5 @@
 -- A poll leads from what the engine's state stands for to what the state after it stands for, and tells its events.
-use Rattle.std.proofs.Common.{◌≡◌, inl, inr, ℕ, ◌+◌, ◌<◌, Bool, true, false, cond, ◌==◌, nat_lt, find, List, [], ◌∷◌, ◌++◌, map, refl, sym, ◌∙◌, subst, ap, arith, Option, Some, None, eq-eqb, option_map}
+use Rattle.std.proofs.Common.{◌≡◌, inl, inr, ℕ, ◌+◌, ◌<◌, Bool, true, false, cond, ◌==◌, nat_lt, find, List, [], ◌∷◌, ◌++◌, length, map, refl, sym, ◌∙◌, subst, ap, arith, Option, Some, None, eq-eqb, option_map}
 use Rattle.std.specs.Prelude.{unwrap_or}
 use Rattle.std.specs.List.{AllByRecursion}
 use Rattle.std.proofs.lemmas.Bool.{eqb-true, cond_both, false_from_ne_true}
@@ -7,6 +7,7 @@ use Rattle.nc_types.specs.Id.{Id, is_past}
 use Rattle.nc_types.specs.Cursor.{CursorAt, cursor_of}
 use Rattle.nc_types.specs.Channel.{name_eq}
 use Rattle.nc_types.specs.declared.start.Start.{Start}
+use Rattle.nc_types.specs.declared.start.Start.TheVariants.{Oldest, Newest, Given}
 use Rattle.nc_journal.specs.declared.word.ModeLine.TheVariants.{Direct}
 use Rattle.nc_journal.specs.declared.word.EndedCause.TheVariants.{Answered}
 use Rattle.nc_journal.specs.declared.event.Event.{Event}
@@ -15,15 +16,15 @@ use Rattle.nc_journal.specs.History.{own, onto}
 use Rattle.nc_journal.specs.Stamp.{clock_of, floor_of, last_of, made_last, spent_of}
 use Rattle.nc_journal.specs.declared.word.LeftCause.TheVariants.{Expired}
 use Rattle.nc_journal.specs.Message.{Message, buffer, first_past}
-use Rattle.nc_journal.specs.Standing.{Stage, Absent, Starting, Standing, Served, Over, stage_of, started, served, IsServed, NobodyServed}
-use Rattle.nc_journal.specs.Sending.{StartsAt}
+use Rattle.nc_journal.specs.Standing.{Stage, Absent, Starting, Standing, Served, Over, stage_of, started, served, IsServed, NobodyServed, StartFits}
+use Rattle.nc_journal.specs.Sending.{StartsFrom}
 use Rattle.nc_journal.proofs.Cuts.{all-weaker, onto-append}
 use Rattle.nc_journal.proofs.Ids.{past_of_test}
 use Rattle.nc_journal.proofs.Buffers.{find-first, find-none}
 use Rattle.nc_journal.proofs.Rising.{ids-rise}
-use Rattle.nc_replay.specs.declared.engine.Channel.{Channel}
-use Rattle.nc_replay.specs.declared.engine.Waiting.{Waiting}
-use Rattle.nc_replay.specs.Told.{posts_of, polls_of, look_of, IsAscending, HasNumber, leaves, expired, staying, found_id, found_sends, start_id, told_poll}
+use Rattle.nc_replay.specs.declared.channel.Channel.{Channel}
+use Rattle.nc_replay.specs.declared.waiting.Waiting.{Waiting}
+use Rattle.nc_replay.specs.LineEvents.{posts_of, polls_of, look_of, IsAscending, HasNumber, leaves, expired, staying, found_id, found_sends, start_id, told_poll}
 use Rattle.nc_replay.specs.Machine.{State, channel_of, with_channel, touched, staying_of, first_id, enter, polled, begins, found_events, poll_events, waiting_of, after_poll}
 use Rattle.nc_replay.proofs.Channels.{channel-name, channel-here, each-channel, order-with}
 use Rattle.nc_replay.proofs.Put.{each-other}
@@ -181,7 +182,19 @@ record Begun (k : ℕ) (c : List ℕ) (begin : Start) (from : Id) (s : State) (h
 
 -- a start of one channel begins behind this id
 abbrev pub Starts : List ℕ → Start → Id → Type 0
-Starts c begin from = StartsAt (cursor_of from) (Starting (c ∷ []) true begin)
+Starts c begin from = StartsFrom 1 0 0 (cursor_of from) [] [] (Starting (c ∷ []) true begin)
+
+-- so does every subscriber of the one worker, whatever stands before and behind it
+starts-from : (k : ℕ) (c : List ℕ) (begin : Start) (from : Id) (newer older : List Event) → Starts c begin from → StartsFrom 1 0 k (cursor_of from) newer older (Starting (c ∷ []) true begin)
+starts-from k c Oldest from newer older starts = starts
+starts-from k c Newest from newer older starts = starts
+starts-from k c (Given cursor) from newer older starts = starts
+
+-- and its start has one tag
+start-fits : (c : List ℕ) (begin : Start) (from : Id) → Starts c begin from → StartFits (c ∷ []) begin
+start-fits c Oldest from starts = tt
+start-fits c Newest from starts = tt
+start-fits c (Given cursor) from starts = ap (λ (at : CursorAt). length at.tags) (sym starts)
 
 has-begun : (k : ℕ) (c : List ℕ) (begin : Start) (from : Id) (s : State) (h : List Event) (found : Option Id) → Starts c begin from → StandsFor s h → stage_of k (own 0 h) ≡ Absent → Begun k c begin from s h found
 has-begun k c begin from s h found starts stands new =
@@ -195,10 +208,10 @@ has-begun k c begin from s h found starts stands new =
     let alone2 = alone-push (subscribed ∷ h) start (λ w other. other) alone1 in
     let nobody1 : NobodyServed (subscribed ∷ h) = nobody-by (subscribed ∷ h) alone1 (λ n. cond_both (k == n) (Starting (c ∷ []) true begin) (stage_of n (own 0 h)) (λ stage. IsServed stage → ⊥) (λ _ v. v) (λ _. nobody 0 n)) in
     let nobody2 : NobodyServed before = nobody-by before alone2 (λ n. none-served (k == n) (stage_of n (own 0 h)) (nobody 0 n)) in
-    let good1 = good-push h subscribed stands.good (record { stamped = tt; ordered = (new, nobody); sent = tt; started = tt; quiet = tt; keeps = tt; left = tt; finds = tt }) in
-    let good2 = good-push (subscribed ∷ h) start good1 (record { stamped = tt; ordered = (rw (eq-eqb k k refl) tt, nobody1); sent = tt; started = rw (eq-eqb k k refl) starts; quiet = tt; keeps = tt; left = tt; finds = tt }) in
+    let good1 = good-push h subscribed stands.good (record { stamped = tt; ordered = (new, nobody); subscribed = ((tt, tt), start-fits c begin from starts); sent = tt; started = tt; quiet = tt; keeps = tt; left = tt; finds = tt }) in
+    let good2 = good-push (subscribed ∷ h) start good1 (record { stamped = tt; ordered = (rw (eq-eqb k k refl) tt, nobody1); subscribed = tt; sent = tt; started = rw (eq-eqb k k refl) (starts-from k c begin from [] (subscribed ∷ h) starts); quiet = tt; keeps = tt; left = tt; finds = tt }) in
     record {
-      good = good-push (relieved k c begin from h) look (good-let c before good2 nobody2) (record { stamped = tt; ordered = nobody-lefts c Expired leaving before nobody2; sent = tt; started = tt; quiet = tt; keeps = tt; left = tt; finds = none-let c before good2 });
+      good = good-push (relieved k c begin from h) look (good-let c before good2 nobody2) (record { stamped = tt; ordered = nobody-lefts c Expired leaving before nobody2; subscribed = tt; sent = tt; started = tt; quiet = tt; keeps = tt; left = tt; finds = none-let c before good2 });
       stage = stage-begun k c begin from h;
       clock = stands.clock ∙ sym (let-same (λ l. clock_of (own 0 l)) c before (λ id slot l. refl));
       floor = stands.floor ∙ sym (let-same (λ l. floor_of (own 0 l)) c before (λ id slot l. refl));
@@ -305,10 +318,10 @@ stands-answered k c begin from s h m starts stands new is =
       later = tt;
       has_it = inl first.0;
     } in
-    let good-sent = good-push seen sent b.good (record { stamped = tt; ordered = rw b.stage tt; sent = to-one; started = tt; quiet = tt; keeps = tt; left = tt; finds = tt }) in
+    let good-sent = good-push seen sent b.good (record { stamped = tt; ordered = rw b.stage tt; subscribed = tt; sent = to-one; started = tt; quiet = tt; keeps = tt; left = tt; finds = tt }) in
     let after = answered k c m.id s.polls seen in
     record {
-      good = good-push (sent ∷ seen) (Ended 0 k Answered) good-sent (record { stamped = tt; ordered = rw (eq-eqb k k refl, b.stage) tt; sent = tt; started = tt; quiet = tt; keeps = tt; left = tt; finds = tt });
+      good = good-push (sent ∷ seen) (Ended 0 k Answered) good-sent (record { stamped = tt; ordered = rw (eq-eqb k k refl, b.stage) tt; subscribed = tt; sent = tt; started = tt; quiet = tt; keeps = tt; left = tt; finds = tt });
       clock = b.clock;
       floor = b.floor;
       posts = b.posts;

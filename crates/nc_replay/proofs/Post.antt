@@ -23,9 +23,9 @@ use Rattle.nc_journal.proofs.Ids.{past_of_test, not_past_of_test}
 use Rattle.nc_journal.proofs.Buffers.{IsBeside, has-append-right}
 use Rattle.nc_journal.proofs.Rising.{stored-past}
 use Rattle.nc_journal.proofs.Leavings.{buffer-stored, id_eq-self}
-use Rattle.nc_replay.specs.declared.engine.Channel.{Channel}
-use Rattle.nc_replay.specs.declared.engine.Waiting.{Waiting}
-use Rattle.nc_replay.specs.Told.{posts_of, polls_of, StandsAt, IsAscending, HasNumber, AreStanding, leaves, expired, staying, surplus, sends, sends_to, told_post}
+use Rattle.nc_replay.specs.declared.channel.Channel.{Channel}
+use Rattle.nc_replay.specs.declared.waiting.Waiting.{Waiting}
+use Rattle.nc_replay.specs.LineEvents.{posts_of, polls_of, StandsAt, IsAscending, HasNumber, AreStanding, leaves, expired, staying, surplus, sends, sends_to, told_post}
 use Rattle.nc_replay.specs.Machine.{State, channel_of, with_channel, is_unsent, staying_of, surplus_of, within_of, kept_in, entry_left, touched, posted, next_stamp, sends_waiting, post_events, after_post}
 use Rattle.nc_replay.proofs.Channels.{channel-name, name-self, order-with}
 use Rattle.nc_replay.proofs.Put.{each-other}
@@ -110,8 +110,8 @@ sent-one c id g w past wait = record {
 good-answered : (c : List ℕ) (id : Id) (g : List Event) (w : Waiting) → IsPast id w.from → IsGood g → Waits (Some id) c g w → IsGood (answered w.k c id w.look g)
 good-answered c id g w past good wait =
     let sent = Sent 0 w.k 0 c id (cursor_of id) (w.look ∷ []) in
-    let good-sent = good-push g sent good (record { stamped = tt; ordered = rw wait.stage tt; sent = sent-one c id g w past wait; started = tt; quiet = tt; keeps = tt; left = tt; finds = tt }) in
-    good-push (sent ∷ g) (Ended 0 w.k Answered) good-sent (record { stamped = tt; ordered = rw (eq-eqb w.k w.k refl, wait.stage) tt; sent = tt; started = tt; quiet = tt; keeps = tt; left = tt; finds = tt })
+    let good-sent = good-push g sent good (record { stamped = tt; ordered = rw wait.stage tt; subscribed = tt; sent = sent-one c id g w past wait; started = tt; quiet = tt; keeps = tt; left = tt; finds = tt }) in
+    good-push (sent ∷ g) (Ended 0 w.k Answered) good-sent (record { stamped = tt; ordered = rw (eq-eqb w.k w.k refl, wait.stage) tt; subscribed = tt; sent = tt; started = tt; quiet = tt; keeps = tt; left = tt; finds = tt })
 
 -- one whom the fresh message isn't past lacks nothing
 waits-unsent : (c : List ℕ) (id : Id) (g : List Event) (w : Waiting) → (IsPast id w.from → ⊥) → Waits (Some id) c g w → Waits nothing c g w
@@ -253,6 +253,7 @@ good-stored c body s h time stands =
     good-turn (LeavesOrClears c s.base.length) _ (make_room c s.base.length h) (stored c body s) (good-room c s.base.length h stands.good nobody) (record {
       stamped = is-stamp c s h time stands;
       ordered = nobody-room c s.base.length h nobody;
+      subscribed = tt;
       sent = tt;
       started = tt;
       quiet = tt;

@@ -5,8 +5,8 @@ use Rattle.std.specs.Ordering.{is_lt, ordering_reverse}
 use Rattle.std.proofs.lemmas.Bool.{cond_both}
 use Rattle.std.proofs.lemmas.Cmp.{nat_list_cmp_total}
 use Rattle.nc_types.specs.Channel.{name_eq}
-use Rattle.nc_replay.specs.declared.engine.Channel.{Channel}
-use Rattle.nc_replay.specs.Told.{IsBefore, AreInOrder, HasName}
+use Rattle.nc_replay.specs.declared.channel.Channel.{Channel}
+use Rattle.nc_replay.specs.LineEvents.{ComesBefore, AreInOrder, HasName}
 use Rattle.nc_replay.specs.Machine.{is_before, channel_of, with_channel, no_channel, names_of, touched}
 use Rattle.nc_replay.proofs.Channels.{name-same, name-self, before-apart, channel-with}
 
@@ -17,11 +17,11 @@ each-other P c x channels is here others d = subst (P d) (sym (channel-with c d 
     (λ other. others d other))
 
 -- a name that comes before another doesn't come behind it
-before-not : (c d : List ℕ) → IsBefore c d → is_before d c ≡ false
+before-not : (c d : List ℕ) → ComesBefore c d → is_before d c ≡ false
 before-not c d before = ap is_lt (nat_list_cmp_total.antisymm d c ∙ ap ordering_reverse before)
 
 -- names in order are different
-pub names-differ : (c d : List ℕ) → IsBefore c d → name_eq c d ≡ false
+pub names-differ : (c d : List ℕ) → ComesBefore c d → name_eq c d ≡ false
 names-differ c d before = by_test (name_eq c d) refl
   where
     by_test : (b : Bool) → name_eq c d ≡ b → b ≡ false
@@ -33,7 +33,7 @@ pub each-itself : (channels : List Channel) → AreInOrder (names_of channels) �
 each-itself [] order = tt
 each-itself (x ∷ rest) order = (ap (λ b. cond b x (channel_of x.name rest)) (name-self x.name x.name refl), behind rest order.0 (each-itself rest order.1))
   where
-    behind : (ys : List Channel) → AllByRecursion (IsBefore x.name) (names_of ys) → AllByRecursion (λ y. channel_of y.name rest ≡ y) ys → AllByRecursion (λ y. channel_of y.name (x ∷ rest) ≡ y) ys
+    behind : (ys : List Channel) → AllByRecursion (ComesBefore x.name) (names_of ys) → AllByRecursion (λ y. channel_of y.name rest ≡ y) ys → AllByRecursion (λ y. channel_of y.name (x ∷ rest) ≡ y) ys
     behind [] later all = tt
     behind (y ∷ ys) later all = (ap (λ b. cond b x (channel_of y.name rest)) (names-differ x.name y.name later.0) ∙ all.0, behind ys later.1 all.1)
 
@@ -55,7 +55,7 @@ touch_each now [] channels = channels
 touch_each now (c ∷ cs) channels = touch_each now cs (with_channel c (touched now (channel_of c channels)) channels)
 
 -- later channels are touched behind the first
-touch-behind : (now : ℕ) (x : Channel) (cs : List (List ℕ)) (channels : List Channel) → AllByRecursion (IsBefore x.name) cs → touch_each now cs (x ∷ channels) ≡ x ∷ touch_each now cs channels
+touch-behind : (now : ℕ) (x : Channel) (cs : List (List ℕ)) (channels : List Channel) → AllByRecursion (ComesBefore x.name) cs → touch_each now cs (x ∷ channels) ≡ x ∷ touch_each now cs channels
 touch-behind now x [] channels later = refl
 touch-behind now x (c ∷ cs) channels later = ap (touch_each now cs) one ∙ touch-behind now x cs (touch now c channels) later.1
   where

@@ -10,8 +10,8 @@ use Rattle.nc_journal.specs.Message.{Message, buffer}
 use Rattle.nc_journal.specs.Leaving.{is_expired}
 use Rattle.nc_journal.specs.Standing.{stage_of}
 use Rattle.nc_journal.proofs.Cuts.{all-weaker, onto-append}
-use Rattle.nc_replay.specs.declared.engine.Channel.{Channel}
-use Rattle.nc_replay.specs.Told.{posts_of, polls_of, IsAscending, IsBefore, AreInOrder, HasName, AllExpired, leaves, expired}
+use Rattle.nc_replay.specs.declared.channel.Channel.{Channel}
+use Rattle.nc_replay.specs.LineEvents.{posts_of, polls_of, IsAscending, ComesBefore, AreInOrder, HasName, AllExpired, leaves, expired}
 use Rattle.nc_replay.specs.Machine.{names_of, State, channel_of, with_channel, no_channel, expired_of, entry_left, touched, channel_left, reap_events, after_reap}
 use Rattle.nc_replay.proofs.Channels.{channel-name, each-channel, order-with}
 use Rattle.nc_replay.proofs.Put.{names-differ, each-other, each-itself, none-or-named, touch_each, touch-all}
@@ -55,7 +55,7 @@ abbrev left_events : List Event → List ℕ → List Event
 left_events h c = map (leaves c Expired) (expired c h (own 0 h))
 
 -- what leaves the later channels is the same once it left the first
-left-later : (c : List ℕ) (cs : List (List ℕ)) (h : List Event) → AllByRecursion (IsBefore c) cs → flat_map (left_events (let_expired c h)) cs ≡ flat_map (left_events h) cs
+left-later : (c : List ℕ) (cs : List (List ℕ)) (h : List Event) → AllByRecursion (ComesBefore c) cs → flat_map (left_events (let_expired c h)) cs ≡ flat_map (left_events h) cs
 left-later c [] h later = refl
 left-later c (d ∷ cs) h later =
     ap (λ es. es ++ flat_map (left_events (let_expired c h)) cs) (ap (map (leaves d Expired))

@@ -12,15 +12,15 @@ use Rattle.nc_journal.specs.declared.word.LeftCause.TheVariants.{Length, Expired
 use Rattle.nc_journal.specs.History.{own}
 use Rattle.nc_journal.specs.Stamp.{clock_of}
 use Rattle.nc_journal.specs.Message.{Message, published, buffer, is_gone, IsRising}
-use Rattle.nc_journal.specs.Leaving.{is_expired, HasMessage, IsFirst, NoneExpired}
+use Rattle.nc_journal.specs.Leaving.{is_expired, HasMessage, StandsFirst, NoneExpired}
 use Rattle.nc_journal.specs.Standing.{stage_of, IsServed, NobodyServed}
 use Rattle.nc_journal.proofs.Cuts.{all-both}
 use Rattle.nc_journal.proofs.Buffers.{buffer-in, rising-filtered}
 use Rattle.nc_journal.proofs.Rising.{ids-rise}
 use Rattle.nc_journal.proofs.Leavings.{without, without_all, without-first, buffer-left, lefts, lefts-same, buffer-lefts, buffer-lefts-other, without_all-filter, without_all-take, has-still, has-passed, has-message-id, first-id}
-use Rattle.nc_replay.specs.Told.{expired, staying, surplus}
+use Rattle.nc_replay.specs.LineEvents.{expired, staying, surplus}
 use Rattle.nc_replay.proofs.Channels.{name-self}
-use Rattle.nc_replay.proofs.Good.{IsGood, IsGoodBut, IsNext, IsNextBut, good-push, good-turn, LeavesOrClears, clears-more, good-clears}
+use Rattle.nc_replay.proofs.Good.{IsGood, IsGoodBut, IsNext, IsNextBut, good-push, good-turn, LeavesOrClears, clears-more, good-clears, owner-one}
 
 pub rising-buffer : (P : List Event → Event → List Event → Type 0) (c : List ℕ) (h : List Event) → IsGoodBut P h → IsRising (buffer c h)
 rising-buffer P c h good = rising-filtered (λ m. not (is_gone c m.id h)) (published c h) (ids-rise 1 h good.stamped c)
@@ -45,7 +45,7 @@ good-expired : (c : List ℕ) (ms : List Message) (h : List Event) → IsGood h 
 good-expired c [] h good nobody rises there = good
 good-expired c (m ∷ ms) h good nobody rises there =
     let left = Left 0 c m.id m.slot Expired in
-    let next : IsNext h left = record { stamped = tt; ordered = nobody; sent = tt; started = tt; quiet = tt; keeps = buffer-in c m.id h (has-message-id (λ x. is_expired (clock_of (own 0 h)) x ≡ true) (buffer c h) m.id m.slot there.0); left = there.0; finds = tt } in
+    let next : IsNext h left = record { stamped = tt; ordered = nobody; subscribed = tt; sent = tt; started = tt; quiet = tt; keeps = buffer-in c m.id h (has-message-id (λ x. is_expired (clock_of (own 0 h)) x ≡ true) (buffer c h) m.id m.slot there.0); left = record { owner = sym (owner-one c); why = there.0 }; finds = tt } in
     good-expired c ms (left ∷ h) (good-push h left good next) (nobody-left c m.id m.slot Expired h nobody) rises.1
     (all-both (λ later. IsPast later.id m.id) (λ x. HasMessage (λ y. is_expired (clock_of (own 0 h)) y ≡ true) (buffer c h) x.id x.slot) (λ x. HasMessage (λ y. is_expired (clock_of (own 0 h)) y ≡ true) (buffer c (left ∷ h)) x.id x.slot)
     (λ x later at. subst (λ l. HasMessage (λ y. is_expired (clock_of (own 0 h)) y ≡ true) l x.id x.slot) (sym (buffer-first c m.id m.slot Expired h)) (has-still (λ y. is_expired (clock_of (own 0 h)) y ≡ true) (buffer c h) x.id m.id x.slot later at))
@@ -89,9 +89,9 @@ good-surplus c len zero ms h good nobody are rises many = good
 good-surplus c len (suc n) [] h good nobody are rises many = good
 good-surplus c len (suc n) (m ∷ ms) h good nobody are rises many =
     let left = Left 0 c m.id m.slot Length in
-    let first : IsFirst (buffer c h) m.id m.slot = subst (λ l. IsFirst l m.id m.slot) (sym are) (refl, refl) in
+    let first : StandsFirst (buffer c h) m.id m.slot = subst (λ l. StandsFirst l m.id m.slot) (sym are) (refl, refl) in
     let full : len - 1 < length (buffer c h) = subst (λ l. len - 1 < length l) (sym are) (enough many) in
-    let next : IsNextBut (LeavesOrClears c len) h left = record { stamped = tt; ordered = nobody; sent = tt; started = tt; quiet = tt; keeps = buffer-in c m.id h (first-id (buffer c h) m.id m.slot first); left = inr (refl, refl, first, full, tt); finds = tt } in
+    let next : IsNextBut (LeavesOrClears c len) h left = record { stamped = tt; ordered = nobody; subscribed = tt; sent = tt; started = tt; quiet = tt; keeps = buffer-in c m.id h (first-id (buffer c h) m.id m.slot first); left = inr (refl, refl, first, full, tt); finds = tt } in
     good-surplus c len n ms (left ∷ h) (good-turn (LeavesOrClears c len) (LeavesOrClears c len) h left good next (λ newer x older is at. clears-more c len m.id m.slot newer x older at)) (nobody-left c m.id m.slot Length h nobody)
     (buffer-first c m.id m.slot Length h ∙ ap (without m.id) are ∙ without-first m ms rises) rises.1 (inr (fewer many))
   where

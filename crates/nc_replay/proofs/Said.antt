@@ -19,7 +19,7 @@ use Rattle.nc_script.specs.Judge.{Judge, Judged, says, chosen}
 use Rattle.nc_script.specs.Part.{IsStart, names, distinct_names}
 use Rattle.nc_script.specs.Line.{line, full_line, command_line, is_blank}
 use Rattle.nc_script.specs.Script.{IsPoll}
-use Rattle.nc_replay.specs.Told.{line_after, IsNew, start_id}
+use Rattle.nc_replay.specs.LineEvents.{line_after, IsNew, start_id}
 use Rattle.nc_replay.specs.Run.{is_among, takes_new, new_line}
 use Rattle.nc_replay.proofs.Poll.{Starts}
 use Rattle.nc_replay.proofs.Step.{IsWithin}

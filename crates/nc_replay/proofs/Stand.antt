@@ -22,9 +22,9 @@ use Rattle.nc_buffer.specs.Buffer.{is_expired as is_expired_entry}
 use Rattle.nc_journal.specs.Leaving.{is_expired}
 use Rattle.nc_journal.proofs.Ids.{IsAtMost}
 use Rattle.nc_journal.proofs.Rising.{published-below}
-use Rattle.nc_replay.specs.declared.engine.Channel.{Channel}
-use Rattle.nc_replay.specs.declared.engine.Waiting.{Waiting}
-use Rattle.nc_replay.specs.Told.{posts_of, polls_of, look_of, IsAscending, HasNumber, AreInOrder, leaves, expired, staying}
+use Rattle.nc_replay.specs.declared.channel.Channel.{Channel}
+use Rattle.nc_replay.specs.declared.waiting.Waiting.{Waiting}
+use Rattle.nc_replay.specs.LineEvents.{posts_of, polls_of, look_of, IsAscending, HasNumber, AreInOrder, leaves, expired, staying}
 use Rattle.nc_replay.specs.Machine.{names_of, State, start, channel_of, expired_of, staying_of, entry_left, after_clock}
 use Rattle.nc_replay.proofs.Good.{IsGood, good-push, good-start, none-further, owner-one}
 
@@ -198,7 +198,7 @@ alone-push h e not_by alone w other = ap (λ b. cond b (e ∷ own w h) (own w h)
 -- a quiet event
 pub stands-quiet : (s : State) (h : List Event) → StandsFor s h → StandsFor s (Quiet ∷ h)
 stands-quiet s h stands = record {
-  good = good-push h Quiet stands.good (record { stamped = tt; ordered = nobody-served s h stands; sent = tt; started = tt; quiet = lacks-nothing s h stands; keeps = tt; left = tt; finds = tt });
+  good = good-push h Quiet stands.good (record { stamped = tt; ordered = nobody-served s h stands; subscribed = tt; sent = tt; started = tt; quiet = lacks-nothing s h stands; keeps = tt; left = tt; finds = tt });
   clock = stands.clock;
   floor = stands.floor;
   posts = stands.posts;
@@ -215,7 +215,7 @@ stands-quiet s h stands = record {
 -- a clock event
 pub stands-clock : (t : ℕ) (s : State) (h : List Event) → StandsFor s h → StandsFor (after_clock t s) (ClockEvent 0 t ∷ h)
 stands-clock t s h stands = record {
-  good = good-push h (ClockEvent 0 t) stands.good (record { stamped = tt; ordered = nobody-served s h stands; sent = tt; started = tt; quiet = tt; keeps = tt; left = tt; finds = tt });
+  good = good-push h (ClockEvent 0 t) stands.good (record { stamped = tt; ordered = nobody-served s h stands; subscribed = tt; sent = tt; started = tt; quiet = tt; keeps = tt; left = tt; finds = tt });
   clock = refl;
   floor = stands.floor;
   posts = stands.posts;

@@ -6,12 +6,12 @@ use Rattle.nc_journal.specs.declared.event.Event.{Event}
 use Rattle.nc_journal.specs.History.{onto}
 use Rattle.nc_journal.specs.Stamp.{next_id, expiry}
 use Rattle.nc_journal.proofs.Standings.{absent-unless}
-use Rattle.nc_replay.specs.declared.engine.Channel.{Channel}
-use Rattle.nc_replay.specs.declared.engine.Waiting.{Waiting}
+use Rattle.nc_replay.specs.declared.channel.Channel.{Channel}
+use Rattle.nc_replay.specs.declared.waiting.Waiting.{Waiting}
 use Rattle.nc_script.specs.declared.line.Line.{Line}
 use Rattle.nc_script.specs.declared.line.Line.TheVariants.{Blank, Clock, Reap, Post, Poll}
-use Rattle.nc_replay.specs.Told.{Tells, IsNew, start_id}
-use Rattle.nc_replay.specs.Machine.{State, start, events_of, after, next_stamp, channel_of, touched, first_id, posted, polled, waiting_of, after_clock, after_reap, after_post, after_poll, Fits}
+use Rattle.nc_replay.specs.LineEvents.{LineTells, IsNew, start_id}
+use Rattle.nc_replay.specs.Machine.{State, start, events_of, after, next_stamp, channel_of, touched, first_id, posted, polled, waiting_of, after_clock, after_reap, after_post, after_poll, NumbersFit}
 use Rattle.nc_replay.proofs.Channels.{channel-name, each-channel, channel-touched}
 use Rattle.nc_replay.proofs.Stand.{StandsFor, stands-quiet, stands-clock, ends-at-last}
 use Rattle.nc_replay.proofs.Poll.{Starts, stands-poll, tells-poll}
@@ -36,7 +36,7 @@ IsWithin _ = Unit {0}
 
 -- what a line makes of a state and a history
 pub record Makes (s : State) (h : List Event) (l : Line) (n : ℕ) : Type 0 where
-  pub tells : Tells s.base h l (events_of l s)
+  pub tells : LineTells s.base h l (events_of l s)
   pub stands : StandsFor (after l s) (onto (events_of l s) h)
   pub come : HasCome (after l s) (n + 1)
   pub base : (after l s).base ≡ s.base
@@ -103,13 +103,13 @@ makes-line s h (Post w c body) n few stands come within new =
 makes-line s h (Poll w k [] begin) n few stands come within new = absurd within
 makes-line s h (Poll w k (c ∷ []) begin) n few stands come within new = record {
   tells = tells-poll k c begin s h stands;
-  stands = stands-poll k c begin (start_id begin) s h within stands (absent-unless k 0 h stands.good.standing new);
+  stands = stands-poll k c begin (start_id begin) s h within stands (absent-unless k 0 h stands.good.ordered new);
   come = come-poll k c (start_id begin) s n come;
   base = refl;
 }
 makes-line s h (Poll w k (c ∷ (d ∷ cs)) begin) n few stands come within new = absurd within
 
-pub come-fits : (s : State) (h : List Event) (n : ℕ) → n < 4294967295 → StandsFor s h → HasCome s n → Fits s
+pub come-fits : (s : State) (h : List Event) (n : ℕ) → n < 4294967295 → StandsFor s h → HasCome s n → NumbersFit s
 come-fits s h n few stands come = record { clock = come.clock; floor = omega (arith, come.floor); last = come.last; order = stands.order; kept = λ c. ends-at-last c s h stands; posts = omega (arith, come.posts); polls = omega (arith, come.polls) }
 
 pub come-start : (base : SettingsAt) → HasCome (start base) 0

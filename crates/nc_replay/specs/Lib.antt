@@ -1,6 +1,6 @@
 pub mod Script
 pub mod Plan
-pub mod Told
+pub mod LineEvents
 pub mod Machine
 pub mod Input
 pub mod Run

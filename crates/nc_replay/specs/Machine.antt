@@ -17,11 +17,11 @@ use Rattle.nc_journal.specs.declared.word.LeftCause.{LeftCause}
 use Rattle.nc_journal.specs.declared.word.LeftCause.TheVariants.{Length, Expired}
 use Rattle.nc_buffer.specs.declared.entry.Entry.{Entry}
 use Rattle.nc_buffer.specs.Buffer.{is_expired}
-use Rattle.nc_replay.specs.declared.engine.Channel.{Channel}
-use Rattle.nc_replay.specs.declared.engine.Waiting.{Waiting}
+use Rattle.nc_replay.specs.declared.channel.Channel.{Channel}
+use Rattle.nc_replay.specs.declared.waiting.Waiting.{Waiting}
 use Rattle.nc_script.specs.declared.line.Line.{Line}
 use Rattle.nc_script.specs.declared.line.Line.TheVariants.{Blank, Clock, Reap, Post, Poll}
-use Rattle.nc_replay.specs.Told.{sends, AreInOrder, start_id}
+use Rattle.nc_replay.specs.LineEvents.{sends, AreInOrder, start_id}
 
 -- what the engine keeps: the settings of its channels, its clock and floor, how many posts and polls there were, and its channels
 pub record State : Type 0 where
@@ -231,7 +231,7 @@ abbrev pub names_of : List Channel → List (List ℕ)
 names_of channels = map (λ x. x.name) channels
 
 -- the numbers are far from their ends, the channels stand in order, and no kept message is past its channel's last id
-pub record Fits (s : State) : Type 0 where
+pub record NumbersFit (s : State) : Type 0 where
   pub clock : s.clock ≤ 4102444800
   pub floor : s.floor < 253402300799
   pub last : (c : List ℕ) → (channel_of c s.channels).last.time ≤ s.floor

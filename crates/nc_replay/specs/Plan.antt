@@ -6,13 +6,13 @@ use Rattle.nc_conf.specs.declared.read.ConfFault.{ConfFault}
 use Rattle.nc_conf.specs.declared.read.ConfFault.TheVariants as faults
 use Rattle.nc_replay.specs.declared.plan.PlanFault.{PlanFault}
 use Rattle.nc_replay.specs.declared.plan.PlanFault.TheVariants.{Misconfigured, NoMemory}
-use Rattle.nc_replay.specs.Script.{lines_of, text_of, AreParts, IsConfigured, IsMisconfigured}
+use Rattle.nc_replay.specs.Script.{lines_of, text_of_lines, AreParts, IsConfigured, IsMisconfigured}
 
 -- the text of a script's configuration, the text of the lines that are made, and how many lines stand before those
 pub record HasParts (script config lines : List ℕ) (number : ℕ) : Type 0 where
   pub before : List (List ℕ)
   pub parts : AreParts script before (lines_of lines)
-  pub text : config ≡ text_of before
+  pub text : config ≡ text_of_lines before
   pub counted : number ≡ length before + 1
 
 -- a script is configured, and its lines are made with these settings

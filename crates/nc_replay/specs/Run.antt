@@ -1,5 +1,5 @@
 -- How the lines behind the first one are made, and how that ends.
-use Rattle.std.specs.Prelude.{◌≡◌, ℕ, ◌+◌, Bool, true, false, not, List, [], ◌∷◌, ◌++◌, ◌==◌, length, Option}
+use Rattle.std.specs.Prelude.{◌≡◌, ℕ, ◌+◌, Bool, true, false, not, List, [], ◌∷◌, ◌++◌, ◌==◌, length}
 use Rattle.std.specs.List.{list_any}
 use Rattle.nc_types.specs.Settings.{SettingsAt}
 use Rattle.nc_journal.specs.declared.event.Event.{Event}
@@ -11,7 +11,7 @@ use Rattle.nc_script.specs.Judge.{Judge, next}
 use Rattle.nc_script.specs.Line.{line}
 use Rattle.nc_script.specs.Script.{HasNumberAt}
 use Rattle.nc_replay.specs.declared.fault.Fault.{Fault}
-use Rattle.nc_replay.specs.Told.{Leads, line_after}
+use Rattle.nc_replay.specs.LineEvents.{Leads, line_after}
 use Rattle.nc_replay.specs.Input.{Adds, AddsPrefix}
 
 abbrev pub is_among : List ℕ → ℕ → Bool
@@ -43,14 +43,14 @@ abbrev pub new_line : List ℕ → List ℕ → Judge Line
 new_line used text = next (line 1 text) (unused_number used text)
 
 -- all lines were made by the settings, and the text of their lawful history was written
-pub record MakesAll (base : SettingsAt) (lines : List (List ℕ)) (old new : Option (List ℕ)) : Type 0 where
+pub record MakesAll (base : SettingsAt) (lines : List (List ℕ)) (old new : List ℕ) : Type 0 where
   pub h : List Event
   pub leads : Leads base [] lines h
   pub lawful : IsLawful 1 h
   pub written : Adds (text_of h) old new
 
 -- the lines before one that breaks a rule were made; so many lines of the script stand before all of these
-pub record MakesUntil (base : SettingsAt) (before : ℕ) (lines : List (List ℕ)) (old new : Option (List ℕ)) (fault : Fault) : Type 0 where
+pub record MakesUntil (base : SettingsAt) (before : ℕ) (lines : List (List ℕ)) (old new : List ℕ) (fault : Fault) : Type 0 where
   pub h : List Event
   pub made : List (List ℕ)
   pub bad : List ℕ
@@ -63,7 +63,7 @@ pub record MakesUntil (base : SettingsAt) (before : ℕ) (lines : List (List ℕ
   pub written : Adds (text_of h) old new
 
 -- the first lines were made, and a prefix of the text of their lawful history was written
-pub record MakesSome (base : SettingsAt) (lines : List (List ℕ)) (old new : Option (List ℕ)) : Type 0 where
+pub record MakesSome (base : SettingsAt) (lines : List (List ℕ)) (old new : List ℕ) : Type 0 where
   pub h : List Event
   pub made : List (List ℕ)
   pub rest : List (List ℕ)

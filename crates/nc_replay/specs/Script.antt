@@ -30,25 +30,25 @@ LacksRule script = AllByRecursion (λ l. l ≢ rule_line) (lines_of script)
 abbrev pub ended : List ℕ → List ℕ
 ended line = line ++ 10 ∷ []
 
-abbrev pub text_of : List (List ℕ) → List ℕ
-text_of lines = flat_map ended lines
+abbrev pub text_of_lines : List (List ℕ) → List ℕ
+text_of_lines lines = flat_map ended lines
 
 -- a line of a configuration: no LF stands in it, and it isn't the line `---`
-pub record IsBefore (line : List ℕ) : Type 0 where
+pub record IsConfigLine (line : List ℕ) : Type 0 where
   pub whole : AllByRecursion (λ b. b ≢ 10) line
   pub other : line ≢ rule_line
 
 -- the parts of a script: the whole lines of its configuration, the line `---`, and the lines that are made
 pub record AreParts (script : List ℕ) (before made : List (List ℕ)) : Type 0 where
   pub rest : List ℕ
-  pub cut : script ≡ text_of before ++ rest
-  pub each : AllByRecursion IsBefore before
+  pub cut : script ≡ text_of_lines before ++ rest
+  pub each : AllByRecursion IsConfigLine before
   pub lines : lines_of rest ≡ rule_line ∷ made
 
 -- the parts of a script and its configuration
 pub record IsConfigured (script : List ℕ) (before made : List (List ℕ)) (config : ConfigAt) : Type 0 where
   pub parts : AreParts script before made
-  pub read : IsRead (text_of before) (Ok config)
+  pub read : IsRead (text_of_lines before) (Ok config)
 
 -- a text breaks this rule of configurations first, at this place
 abbrev pub IsFaulty : List ℕ → ℕ → ℕ → Type 0
@@ -59,7 +59,7 @@ pub record HasFault (script : List ℕ) (rule at : ℕ) : Type 0 where
   pub before : List (List ℕ)
   pub made : List (List ℕ)
   pub parts : AreParts script before made
-  pub read : IsFaulty (text_of before) rule at
+  pub read : IsFaulty (text_of_lines before) rule at
 
 -- the rule of configurations that a script breaks first, and its place: without the line `---` its text isn't ended
 abbrev pub IsMisconfigured : List ℕ → ℕ → ℕ → Type 0

@@ -1,7 +1,8 @@
 -- What the top call leaves, for each of its answers.
-use Rattle.std.specs.Prelude.{◌≡◌, ◌⊎◌, ℕ, ◌+◌, List, [], ◌∷◌, ◌++◌, codes, length, Option, Some, None, IfSome}
+use Rattle.std.specs.Prelude.{◌≡◌, ◌⊎◌, ℕ, ◌+◌, ◌<◌, List, [], ◌∷◌, ◌++◌, codes, length, Option, IfSome}
 use Rattle.std.specs.Fmt.{decimal}
 use Rattle.nc_types.specs.Config.{ConfigAt}
+use Rattle.nc_outside.specs.Pieces.{GivesAll, GivesMore}
 use Rattle.nc_conf.specs.Reading.{HasConfig}
 use Rattle.nc_journal.specs.declared.event.Event.{Event}
 use Rattle.nc_journal.specs.Lawful.{IsLawful}
@@ -13,8 +14,8 @@ use Rattle.nc_replay.specs.declared.command.End.TheVariants.{Passed, Refused, Mi
 use Rattle.nc_replay.specs.declared.check.Verdict.{Verdict}
 use Rattle.nc_replay.specs.declared.check.Verdict.TheVariants.{Accepted, Rejected}
 use Rattle.nc_replay.specs.Script.{IsConfigured, IsFaulty, IsMisconfigured}
-use Rattle.nc_replay.specs.Told.{Leads, line_after}
-use Rattle.nc_replay.specs.Input.{Adds, AddsPrefix}
+use Rattle.nc_replay.specs.LineEvents.{Leads, line_after}
+use Rattle.nc_replay.specs.Input.{longest_input, ReadsAll, Adds, AddsPrefix}
 
 -- the words are the command `replay`, or `check`
 abbrev pub IsReplay : List (List ℕ) → Type 0
@@ -63,59 +64,42 @@ misconfigured_text fault = codes "config rule=" ++ decimal fault.rule ++ codes "
 abbrev pub accepted_text : ConfigAt → List ℕ
 accepted_text config = codes "ok workers=" ++ decimal config.workers ++ codes " locations=" ++ decimal (length config.locations) ++ 10 ∷ []
 
--- the script is what the source had left, where it tells
-abbrev pub IsInput : List ℕ → Option (List ℕ) → Type 0
-IsInput script None = Unit {0}
-IsInput script (Some bytes) = script ≡ bytes
-
--- nothing of the input is left, where the source tells
-abbrev pub IsDrained : Option (List ℕ) → Type 0
-IsDrained None = Unit {0}
-IsDrained (Some bytes) = bytes ≡ []
-
 -- every line of a script was made, and the text of their lawful history was written
-pub record ReplaysText (script : List ℕ) (old new : Option (List ℕ)) : Type 0 where
+pub record ReplaysText (script old new : List ℕ) : Type 0 where
   pub h : List Event
   pub passes : Passes script h
   pub lawful : IsLawful 1 h
   pub written : Adds (text_of h) old new
 
 -- the lines before the first that breaks a rule were made, and the text of their lawful history and that fault were written
-pub record RefusesText (script : List ℕ) (old new : Option (List ℕ)) : Type 0 where
+pub record RefusesText (script old new : List ℕ) : Type 0 where
   pub h : List Event
   pub fault : Fault
   pub fails : Fails script h fault
   pub lawful : IsLawful 1 h
   pub written : Adds (text_of h ++ fault_text fault) old new
 
--- the lines before the first that breaks a rule were made, and the text of their lawful history was written
-pub record StopsAt (script : List ℕ) (old new : Option (List ℕ)) (fault : Fault) : Type 0 where
-  pub h : List Event
-  pub fails : Fails script h fault
-  pub lawful : IsLawful 1 h
-  pub written : Adds (text_of h) old new
-
 -- the script has a fault before its lines, which was written
-pub record MisconfiguredText (script : List ℕ) (old new : Option (List ℕ)) : Type 0 where
+pub record MisconfiguredText (script old new : List ℕ) : Type 0 where
   pub fault : ConfigFault
   pub misconfigured : IsMisconfigured script fault.rule fault.at
   pub written : Adds (misconfigured_text fault) old new
 
 -- what a replay leaves by its end
-abbrev pub EndsAs : End → List ℕ → Option (List ℕ) → Option (List ℕ) → Type 0
+abbrev pub EndsAs : End → List ℕ → List ℕ → List ℕ → Type 0
 EndsAs Passed script old new = ReplaysText script old new
 EndsAs Refused script old new = RefusesText script old new
 EndsAs Misconfigured script old new = MisconfiguredText script old new
 
 -- the first lines were made, or none, and a prefix of the text of their lawful history was written
-pub record CutsOffText (script : List ℕ) (old new : Option (List ℕ)) : Type 0 where
+pub record CutsOffText (script old new : List ℕ) : Type 0 where
   pub h : List Event
   pub begins : (h ≡ []) ⊎ Begins script h
   pub lawful : IsLawful 1 h
   pub written : AddsPrefix (text_of h) old new
 
 -- the same where a line breaks a rule, and that fault stands behind that text
-pub record CutsOffFault (script : List ℕ) (old new : Option (List ℕ)) : Type 0 where
+pub record CutsOffFault (script old new : List ℕ) : Type 0 where
   pub h : List Event
   pub fault : Fault
   pub fails : Fails script h fault
@@ -123,85 +107,103 @@ pub record CutsOffFault (script : List ℕ) (old new : Option (List ℕ)) : Type
   pub written : AddsPrefix (text_of h ++ fault_text fault) old new
 
 -- a prefix of the fault before a script's lines was written
-pub record CutsOffMisconfigured (script : List ℕ) (old new : Option (List ℕ)) : Type 0 where
+pub record CutsOffMisconfigured (script old new : List ℕ) : Type 0 where
   pub fault : ConfigFault
   pub misconfigured : IsMisconfigured script fault.rule fault.at
   pub written : AddsPrefix (misconfigured_text fault) old new
 
 -- the work was cut off while the lines of a script were made, or while a fault was written
-abbrev pub CutsOffSome : List ℕ → Option (List ℕ) → Option (List ℕ) → Type 0
+abbrev pub CutsOffSome : List ℕ → List ℕ → List ℕ → Type 0
 CutsOffSome script old new = CutsOffText script old new ⊎ (CutsOffFault script old new ⊎ CutsOffMisconfigured script old new)
 
--- some text that is the whole input, where the source tells it, is in this relation with what was written
-pub record OfInput (P : List ℕ → Option (List ℕ) → Option (List ℕ) → Type 0) (left old new : Option (List ℕ)) : Type 0 where
+-- some text, which is the whole input, is in this relation with what was written
+pub record OfInput (P : List ℕ → List ℕ → List ℕ → Type 0) (left rest : Option (List ℕ)) (before behind : List (List ℕ)) (old new : List ℕ) : Type 0 where
   pub script : List ℕ
-  pub input : IsInput script left
+  pub read : ReadsAll script left rest before behind
   pub written : P script old new
 
--- status 0, 3, 8, 5 and 6 of a replay, by what was left of the input and what was written
-abbrev pub Replays : Option (List ℕ) → Option (List ℕ) → Option (List ℕ) → Type 0
-Replays left old new = OfInput ReplaysText left old new
+-- status 0, 3, 8, 5 and 6 of a replay, by what the source tells that it has left, what its reads gave, and what was written
+abbrev pub Replays : Option (List ℕ) → Option (List ℕ) → List (List ℕ) → List (List ℕ) → List ℕ → List ℕ → Type 0
+Replays left rest before behind old new = OfInput ReplaysText left rest before behind old new
 
-abbrev pub Refuses : Option (List ℕ) → Option (List ℕ) → Option (List ℕ) → Type 0
-Refuses left old new = OfInput RefusesText left old new
+abbrev pub Refuses : Option (List ℕ) → Option (List ℕ) → List (List ℕ) → List (List ℕ) → List ℕ → List ℕ → Type 0
+Refuses left rest before behind old new = OfInput RefusesText left rest before behind old new
 
-abbrev pub Misconfigures : Option (List ℕ) → Option (List ℕ) → Option (List ℕ) → Type 0
-Misconfigures left old new = OfInput MisconfiguredText left old new
+abbrev pub Misconfigures : Option (List ℕ) → Option (List ℕ) → List (List ℕ) → List (List ℕ) → List ℕ → List ℕ → Type 0
+Misconfigures left rest before behind old new = OfInput MisconfiguredText left rest before behind old new
 
-abbrev pub CutsOff : Option (List ℕ) → Option (List ℕ) → Option (List ℕ) → Type 0
-CutsOff left old new = OfInput CutsOffSome left old new
+abbrev pub CutsOff : Option (List ℕ) → Option (List ℕ) → List (List ℕ) → List (List ℕ) → List ℕ → List ℕ → Type 0
+CutsOff left rest before behind old new = OfInput CutsOffSome left rest before behind old new
 
 -- a configuration is accepted, which was written
-pub record AcceptsText (text : List ℕ) (old new : Option (List ℕ)) : Type 0 where
+pub record AcceptsText (text old new : List ℕ) : Type 0 where
   pub config : ConfigAt
   pub read : HasConfig text config
   pub written : Adds (accepted_text config) old new
 
 -- a configuration has a fault, which was written
-pub record RejectsText (text : List ℕ) (old new : Option (List ℕ)) : Type 0 where
+pub record RejectsText (text old new : List ℕ) : Type 0 where
   pub fault : ConfigFault
   pub faulty : IsFaulty text fault.rule fault.at
   pub written : Adds (misconfigured_text fault) old new
 
 -- what a check leaves by its verdict
-abbrev pub JudgesAs : Verdict → List ℕ → Option (List ℕ) → Option (List ℕ) → Type 0
+abbrev pub JudgesAs : Verdict → List ℕ → List ℕ → List ℕ → Type 0
 JudgesAs Accepted text old new = AcceptsText text old new
 JudgesAs Rejected text old new = RejectsText text old new
 
 -- a prefix of the one or the other was written
-pub record CutsOffAccepted (text : List ℕ) (old new : Option (List ℕ)) : Type 0 where
+pub record CutsOffAccepted (text old new : List ℕ) : Type 0 where
   pub config : ConfigAt
   pub read : HasConfig text config
   pub written : AddsPrefix (accepted_text config) old new
 
-pub record CutsOffRejected (text : List ℕ) (old new : Option (List ℕ)) : Type 0 where
+pub record CutsOffRejected (text old new : List ℕ) : Type 0 where
   pub fault : ConfigFault
   pub faulty : IsFaulty text fault.rule fault.at
   pub written : AddsPrefix (misconfigured_text fault) old new
 
-abbrev pub CutsOffVerdict : List ℕ → Option (List ℕ) → Option (List ℕ) → Type 0
+abbrev pub CutsOffVerdict : List ℕ → List ℕ → List ℕ → Type 0
 CutsOffVerdict text old new = CutsOffAccepted text old new ⊎ CutsOffRejected text old new
 
 -- status 0, 8 and 5 of a check
-abbrev pub Accepts : Option (List ℕ) → Option (List ℕ) → Option (List ℕ) → Type 0
-Accepts left old new = OfInput AcceptsText left old new
+abbrev pub Accepts : Option (List ℕ) → Option (List ℕ) → List (List ℕ) → List (List ℕ) → List ℕ → List ℕ → Type 0
+Accepts left rest before behind old new = OfInput AcceptsText left rest before behind old new
 
-abbrev pub Rejects : Option (List ℕ) → Option (List ℕ) → Option (List ℕ) → Type 0
-Rejects left old new = OfInput RejectsText left old new
+abbrev pub Rejects : Option (List ℕ) → Option (List ℕ) → List (List ℕ) → List (List ℕ) → List ℕ → List ℕ → Type 0
+Rejects left rest before behind old new = OfInput RejectsText left rest before behind old new
 
-abbrev pub CutsOffCheck : Option (List ℕ) → Option (List ℕ) → Option (List ℕ) → Type 0
-CutsOffCheck left old new = OfInput CutsOffVerdict left old new
+abbrev pub CutsOffCheck : Option (List ℕ) → Option (List ℕ) → List (List ℕ) → List (List ℕ) → List ℕ → List ℕ → Type 0
+CutsOffCheck left rest before behind old new = OfInput CutsOffVerdict left rest before behind old new
 
 -- the work stopped: reading or writing failed, the input is too long, or there was no memory
 abbrev pub IsStopped : ℕ → Type 0
 IsStopped n = (n ≡ 4) ⊎ ((n ≡ 5) ⊎ ((n ≡ 6) ⊎ (n ≡ 7)))
 
--- status 8 comes, unless the work stopped, wherever a script or a configuration is refused
-abbrev pub MustRefuse : Option (List ℕ) → ℕ → Type 0
-MustRefuse left status = IfSome left (λ script. (rule at : ℕ) → IsMisconfigured script rule at → (status ≡ 8) ⊎ IsStopped status)
+-- status 3 comes, unless the work stopped, where a line of a script breaks a rule
+abbrev pub RefusedBy : ℕ → List ℕ → Type 0
+RefusedBy status script = (h : List Event) (fault : Fault) → Fails script h fault → (status ≡ 3) ⊎ IsStopped status
 
-abbrev pub MustReject : Option (List ℕ) → ℕ → Type 0
-MustReject left status = IfSome left (λ text. (rule at : ℕ) → IsFaulty text rule at → (status ≡ 8) ⊎ IsStopped status)
+-- status 8 comes, unless the work stopped, where a script or a configuration is refused
+abbrev pub MisconfiguredBy : ℕ → List ℕ → Type 0
+MisconfiguredBy status script = (rule at : ℕ) → IsMisconfigured script rule at → (status ≡ 8) ⊎ IsStopped status
+
+abbrev pub RejectedBy : ℕ → List ℕ → Type 0
+RejectedBy status text = (rule at : ℕ) → IsFaulty text rule at → (status ≡ 8) ⊎ IsStopped status
+
+-- of this text, where the source tells it; and of the text that the reads gave to its end
+abbrev pub OfAllInput : (List ℕ → Type 0) → Option (List ℕ) → List (List ℕ) → List (List ℕ) → Type 0
+OfAllInput P left before behind = IfSome left P × ((text : List ℕ) → GivesAll text before behind → P text)
+
+-- reading stopped: the source failed, there was no memory, or the input is too long
+abbrev pub IsUnread : ℕ → Type 0
+IsUnread n = (n ≡ 4) ⊎ ((n ≡ 6) ⊎ (n ≡ 7))
+
+-- a source that has more left than an input may have isn't read, and one whose reads gave more is refused
+abbrev pub MustBeShort : Option (List ℕ) → List (List ℕ) → List (List ℕ) → ℕ → Type 0
+MustBeShort left before behind status =
+    IfSome left (λ bytes. longest_input < length bytes → IsUnread status)
+    × (GivesMore longest_input before behind → (status ≡ 7) ⊎ (status ≡ 6))
 
 -- a status of the top call
 abbrev pub IsStatus : ℕ → Type 0

@@ -1,12 +1,11 @@
 //! The lines that tell of a fault, or of a configuration that is accepted, and their writing.
 //!
 //! Below stands the writing of texts; above stand the commands.
-ghost use Rattle.std.specs.Prelude.{◌≡◌, ◌≤◌, ◌⊎◌, ◌++◌, IfOk, OnOk, OnErr, IsErrOf};
+ghost use Rattle.std.specs.Prelude.{◌≡◌, ◌≤◌, ◌++◌, IfOk, IfErr, OnOk, OnErr, IsErrOf};
 ghost use Rattle.std.specs.Fmt.{decimal};
-ghost use Rattle.nc_outside.specs.Fault.{HasRisen};
-ghost use Rattle.nc_replay.specs.Input.{Adds, AddsPrefix};
+ghost use Rattle.nc_replay.specs.Input.{Adds, AddsPrefix, HasStopped, IsCalm};
 ghost use Rattle.nc_replay.specs.Top.{fault_text, misconfigured_text, accepted_text};
-ghost use Rattle.nc_replay.specs.declared.replay.Stop.TheVariants.{Sink as SinkStop, NoMemory as NoMemoryStop};
+ghost use Rattle.nc_replay.specs.declared.replay.Stop.TheVariants.{NoMemory as NoMemoryStop};
 
 use crate::fault::{Fault, Misconfigured};
 use crate::input::write_all;
@@ -62,7 +61,8 @@ fn accepted_text(alloc: Global, config: &Config) -> Result<Vec<u8>, NoMemory>
 pub fn write_fault<K: Sink>(alloc: Global, fault: Fault, out: &mut K) -> Result<(), Stop>
     ensures whole { OnOk result (Adds (fault_text fault) (K.taken out.old) (K.taken out.new)) }
     ensures prefix { OnErr result (AddsPrefix (fault_text fault) (K.taken out.old) (K.taken out.new)) }
-    ensures cause { IsErrOf result SinkStop → HasRisen (K.faults out.old) (K.faults out.new) ⊎ HasRisen (K.refusals out.old) (K.refusals out.new) }
+    ensures cause { IfErr result (HasStopped (K.faults out.old) (K.faults out.new) (K.refusals out.old) (K.refusals out.new)) }
+    ensures calm { OnOk result (IsCalm (K.faults out.old) (K.faults out.new) (K.refusals out.old) (K.refusals out.new)) }
 {
     let text = fault_text(alloc, fault)?;
     write_all(out, &text)?;
@@ -78,7 +78,8 @@ pub fn write_misconfigured<K: Sink>(
     ensures whole { OnOk result (Adds (misconfigured_text fault) (K.taken out.old) (K.taken out.new)) }
     ensures prefix { OnErr result (AddsPrefix (misconfigured_text fault) (K.taken out.old) (K.taken out.new)) }
     ensures unwritten { IsErrOf result NoMemoryStop → K.taken out.new ≡ K.taken out.old }
-    ensures cause { IsErrOf result SinkStop → HasRisen (K.faults out.old) (K.faults out.new) ⊎ HasRisen (K.refusals out.old) (K.refusals out.new) }
+    ensures cause { IfErr result (HasStopped (K.faults out.old) (K.faults out.new) (K.refusals out.old) (K.refusals out.new)) }
+    ensures calm { OnOk result (IsCalm (K.faults out.old) (K.faults out.new) (K.refusals out.old) (K.refusals out.new)) }
 {
     let text = misconfigured_text(alloc, fault)?;
     write_all(out, &text)?;
@@ -90,7 +91,8 @@ pub fn write_accepted<K: Sink>(alloc: Global, config: &Config, out: &mut K) -> R
     ensures whole { OnOk result (Adds (accepted_text config.now) (K.taken out.old) (K.taken out.new)) }
     ensures prefix { OnErr result (AddsPrefix (accepted_text config.now) (K.taken out.old) (K.taken out.new)) }
     ensures unwritten { IsErrOf result NoMemoryStop → K.taken out.new ≡ K.taken out.old }
-    ensures cause { IsErrOf result SinkStop → HasRisen (K.faults out.old) (K.faults out.new) ⊎ HasRisen (K.refusals out.old) (K.refusals out.new) }
+    ensures cause { IfErr result (HasStopped (K.faults out.old) (K.faults out.new) (K.refusals out.old) (K.refusals out.new)) }
+    ensures calm { OnOk result (IsCalm (K.faults out.old) (K.faults out.new) (K.refusals out.old) (K.refusals out.new)) }
 {
     let text = accepted_text(alloc, config)?;
     write_all(out, &text)?;

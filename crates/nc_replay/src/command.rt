@@ -2,18 +2,18 @@
 //!
 //! `main` makes the real ones and calls it. Below stand the reading of the input, the plan of a script, the replay of its
 //! lines, and the check of a configuration.
-ghost use Rattle.std.specs.Prelude.{◌≡◌, ◌≢◌, ◌≤◌, ◌<◌, ◌⊎◌, length, map, string_bytes, IfOk, OnErr, IsErrOf, IfSome};
+ghost use Rattle.std.specs.Prelude.{◌≡◌, ◌≢◌, ◌≤◌, ◌⊎◌, ◌+◌, length, map, string_bytes, IfOk, IfErr, OnOk, OnErr};
 ghost use Rattle.nc_outside.specs.Fault.{HasRisen};
 ghost use Rattle.nc_cli.specs.Words.{IsCommand, usage_text};
 ghost use Rattle.nc_cli.specs.declared.Command.TheVariants.{Replay, Check, Usage};
-ghost use Rattle.nc_replay.specs.Input.{Adds, AddsPrefix, IsTooLong};
-ghost use Rattle.nc_replay.specs.Top.{IsReplay, IsCheck, IsDrained, Replays, Refuses, Misconfigures, Accepts, Rejects, CutsOff, CutsOffCheck, EndsAs, CutsOffSome, IsStatus, MustRefuse, MustReject};
-ghost use Rattle.nc_replay.specs.declared.replay.Stop.TheVariants.{Sink as SinkStop};
+ghost use Rattle.nc_replay.specs.Input.{longest_input, ReadsUpTo, ReadsTooMuch, ReadsSome, HasStopped, IsCalm, Adds, AddsPrefix};
+ghost use Rattle.nc_replay.specs.Top.{IsReplay, IsCheck, Replays, Refuses, Misconfigures, Accepts, Rejects, CutsOff, CutsOffCheck};
+ghost use Rattle.nc_replay.specs.Top.{EndsAs, CutsOffSome, IsStatus, IsUnread, OfAllInput, RefusedBy, MisconfiguredBy, RejectedBy, MustBeShort};
 
 use crate::answer::{write_fault, write_misconfigured};
 use crate::check::check;
 use crate::input::{ReadFault, read_all, write_all};
-use crate::laws::one_configuration;
+use crate::laws::{one_configuration, one_end};
 use crate::plan::{PlanFault, plan_of};
 use crate::replay::{Stop, replay_lines};
 use nc_cli::{Command, read_words, usage};
@@ -33,10 +33,11 @@ enum End {
 
 /// Replays a script and writes its fault, if it has one.
 fn replay_text<K: Sink>(alloc: Global, script: &[u8], out: &mut K) -> Result<End, Stop>
-    requires { length script.now ≤ 67108864 }
+    requires { length script.now ≤ longest_input }
     ensures end { IfOk result (λ end. EndsAs end script.now (K.taken out.old) (K.taken out.new)) }
     ensures some { OnErr result (CutsOffSome script.now (K.taken out.old) (K.taken out.new)) }
-    ensures cause { IsErrOf result SinkStop → HasRisen (K.faults out.old) (K.faults out.new) ⊎ HasRisen (K.refusals out.old) (K.refusals out.new) }
+    ensures cause { IfErr result (HasStopped (K.faults out.old) (K.faults out.new) (K.refusals out.old) (K.refusals out.new)) }
+    ensures calm { OnOk result (IsCalm (K.faults out.old) (K.faults out.new) (K.refusals out.old) (K.refusals out.new)) }
 {
     let plan = match plan_of(alloc, script) {
         Ok(plan) => plan,
@@ -53,20 +54,37 @@ fn replay_text<K: Sink>(alloc: Global, script: &[u8], out: &mut K) -> Result<End
     Ok(End::Refused)
 }
 
-/// Reads a script from the input and replays it.
+/// ReadsSoFar a script from the input and replays it.
 fn replay<S: Source, K: Sink>(alloc: Global, input: &mut S, out: &mut K) -> u8
     ensures status { IsStatus result }
     ensures command { result ≢ 2 }
-    ensures passed { result ≡ 0 → Replays (S.left input.old) (K.taken out.old) (K.taken out.new) }
-    ensures drained { (result ≡ 0) ⊎ ((result ≡ 3) ⊎ (result ≡ 8)) → IsDrained (S.left input.new) }
-    ensures refused { result ≡ 3 → Refuses (S.left input.old) (K.taken out.old) (K.taken out.new) }
-    ensures misconfigured { result ≡ 8 → Misconfigures (S.left input.old) (K.taken out.old) (K.taken out.new) }
+    ensures passed { result ≡ 0
+        → Replays (S.left input.old) (S.left input.new) (S.given input.old) (S.given input.new)
+        (K.taken out.old) (K.taken out.new) }
+    ensures refused { result ≡ 3
+        → Refuses (S.left input.old) (S.left input.new) (S.given input.old) (S.given input.new)
+        (K.taken out.old) (K.taken out.new) }
+    ensures misconfigured { result ≡ 8
+        → Misconfigures (S.left input.old) (S.left input.new) (S.given input.old) (S.given input.new)
+        (K.taken out.old) (K.taken out.new) }
     ensures unread { result ≡ 4 → HasRisen (S.faults input.old) (S.faults input.new) }
-    ensures unwritten { result ≡ 5 → HasRisen (K.faults out.old) (K.faults out.new) ⊎ HasRisen (K.refusals out.old) (K.refusals out.new) }
-    ensures cut_off { result ≡ 5 → CutsOff (S.left input.old) (K.taken out.old) (K.taken out.new) }
-    ensures out_of_memory { result ≡ 6 → (K.taken out.new ≡ K.taken out.old) ⊎ CutsOff (S.left input.old) (K.taken out.old) (K.taken out.new) }
-    ensures too_long { result ≡ 7 → IsTooLong (S.left input.old) }
-    ensures too_long_always { IfSome (S.left input.old) (λ bytes. 67108864 < length bytes → (result ≡ 7) ⊎ ((result ≡ 4) ⊎ (result ≡ 6))) }
+    ensures unread_always { result ≢ 4 → S.faults input.new ≡ S.faults input.old }
+    ensures unread_left { result ≡ 4 → ReadsUpTo longest_input
+        (S.left input.old) (S.left input.new) (S.given input.old) (S.given input.new) }
+    ensures unwritten { result ≡ 5
+        → HasRisen (K.faults out.old) (K.faults out.new) ⊎ HasRisen (K.refusals out.old) (K.refusals out.new) }
+    ensures unwritten_always { result ≢ 5 → IsCalm (K.faults out.old) (K.faults out.new) (K.refusals out.old) (K.refusals out.new) }
+    ensures cut_off { result ≡ 5
+        → CutsOff (S.left input.old) (S.left input.new) (S.given input.old) (S.given input.new)
+        (K.taken out.old) (K.taken out.new) }
+    ensures out_of_memory { result ≡ 6 → (K.taken out.new ≡ K.taken out.old) ⊎
+        CutsOff (S.left input.old) (S.left input.new) (S.given input.old) (S.given input.new)
+        (K.taken out.old) (K.taken out.new) }
+    ensures too_long { result ≡ 7 → ReadsTooMuch
+        (S.left input.old) (S.left input.new) (S.given input.old) (S.given input.new) }
+    ensures reads { ReadsUpTo (longest_input + 1) (S.left input.old) (S.left input.new) (S.given input.old) (S.given input.new)
+        ⊎ ReadsSome (S.left input.old) (S.left input.new) (S.given input.old) (S.given input.new) }
+    ensures whole { IsUnread result ⊎ ReadsSome (S.left input.old) (S.left input.new) (S.given input.old) (S.given input.new) }
     ensures silent { (result ≡ 4) ⊎ (result ≡ 7) → K.taken out.new ≡ K.taken out.old }
 {
     let text = match read_all(alloc, input) {
@@ -87,22 +105,48 @@ fn replay<S: Source, K: Sink>(alloc: Global, input: &mut S, out: &mut K) -> u8
 /// Runs a command, and gives the exit status.
 fn run<S: Source, K: Sink>(alloc: Global, command: Command, input: &mut S, out: &mut K) -> u8
     ensures status { IsStatus result }
-    ensures passed { command ≡ Replay → result ≡ 0 → Replays (S.left input.old) (K.taken out.old) (K.taken out.new) }
-    ensures accepted { command ≡ Check → result ≡ 0 → Accepts (S.left input.old) (K.taken out.old) (K.taken out.new) }
-    ensures drained { (result ≡ 0) ⊎ ((result ≡ 3) ⊎ (result ≡ 8)) → IsDrained (S.left input.new) }
+    ensures passed { command ≡ Replay → result ≡ 0
+        → Replays (S.left input.old) (S.left input.new) (S.given input.old) (S.given input.new)
+        (K.taken out.old) (K.taken out.new) }
+    ensures accepted { command ≡ Check → result ≡ 0
+        → Accepts (S.left input.old) (S.left input.new) (S.given input.old) (S.given input.new)
+        (K.taken out.old) (K.taken out.new) }
     ensures usage { result ≡ 2 → (command ≡ Usage) × Adds usage_text (K.taken out.old) (K.taken out.new) }
     ensures usage_always { command ≡ Usage → (result ≡ 2) ⊎ (result ≡ 5) }
-    ensures refused { result ≡ 3 → (command ≡ Replay) × Refuses (S.left input.old) (K.taken out.old) (K.taken out.new) }
-    ensures misconfigured { command ≡ Replay → result ≡ 8 → Misconfigures (S.left input.old) (K.taken out.old) (K.taken out.new) }
-    ensures rejected { command ≡ Check → result ≡ 8 → Rejects (S.left input.old) (K.taken out.old) (K.taken out.new) }
+    ensures untouched { command ≡ Usage → input.new ≡ input.old }
+    ensures refused { result ≡ 3 → (command ≡ Replay) ×
+        Refuses (S.left input.old) (S.left input.new) (S.given input.old) (S.given input.new)
+        (K.taken out.old) (K.taken out.new) }
+    ensures misconfigured { command ≡ Replay → result ≡ 8
+        → Misconfigures (S.left input.old) (S.left input.new) (S.given input.old) (S.given input.new)
+        (K.taken out.old) (K.taken out.new) }
+    ensures rejected { command ≡ Check → result ≡ 8
+        → Rejects (S.left input.old) (S.left input.new) (S.given input.old) (S.given input.new)
+        (K.taken out.old) (K.taken out.new) }
     ensures unread { result ≡ 4 → HasRisen (S.faults input.old) (S.faults input.new) }
-    ensures unwritten { result ≡ 5 → HasRisen (K.faults out.old) (K.faults out.new) ⊎ HasRisen (K.refusals out.old) (K.refusals out.new) }
-    ensures cut_off { command ≡ Replay → result ≡ 5 → CutsOff (S.left input.old) (K.taken out.old) (K.taken out.new) }
-    ensures check_cut_off { command ≡ Check → result ≡ 5 → CutsOffCheck (S.left input.old) (K.taken out.old) (K.taken out.new) }
+    ensures unread_always { result ≢ 4 → S.faults input.new ≡ S.faults input.old }
+    ensures unread_left { result ≡ 4 → ReadsUpTo longest_input
+        (S.left input.old) (S.left input.new) (S.given input.old) (S.given input.new) }
+    ensures unwritten { result ≡ 5
+        → HasRisen (K.faults out.old) (K.faults out.new) ⊎ HasRisen (K.refusals out.old) (K.refusals out.new) }
+    ensures unwritten_always { result ≢ 5 → IsCalm (K.faults out.old) (K.faults out.new) (K.refusals out.old) (K.refusals out.new) }
+    ensures cut_off { command ≡ Replay → result ≡ 5
+        → CutsOff (S.left input.old) (S.left input.new) (S.given input.old) (S.given input.new)
+        (K.taken out.old) (K.taken out.new) }
+    ensures check_cut_off { command ≡ Check → result ≡ 5
+        → CutsOffCheck (S.left input.old) (S.left input.new) (S.given input.old) (S.given input.new)
+        (K.taken out.old) (K.taken out.new) }
     ensures usage_cut_off { command ≡ Usage → result ≡ 5 → AddsPrefix usage_text (K.taken out.old) (K.taken out.new) }
-    ensures out_of_memory { result ≡ 6 → (K.taken out.new ≡ K.taken out.old) ⊎ ((command ≡ Replay) × CutsOff (S.left input.old) (K.taken out.old) (K.taken out.new)) }
-    ensures too_long { result ≡ 7 → IsTooLong (S.left input.old) }
-    ensures too_long_always { command ≢ Usage → IfSome (S.left input.old) (λ bytes. 67108864 < length bytes → (result ≡ 7) ⊎ ((result ≡ 4) ⊎ (result ≡ 6))) }
+    ensures out_of_memory { result ≡ 6 → (K.taken out.new ≡ K.taken out.old) ⊎ ((command ≡ Replay) ×
+        CutsOff (S.left input.old) (S.left input.new) (S.given input.old) (S.given input.new)
+        (K.taken out.old) (K.taken out.new)) }
+    ensures too_long { result ≡ 7 → ReadsTooMuch
+        (S.left input.old) (S.left input.new) (S.given input.old) (S.given input.new) }
+    ensures reads { command ≢ Usage
+        → ReadsUpTo (longest_input + 1) (S.left input.old) (S.left input.new) (S.given input.old) (S.given input.new)
+        ⊎ ReadsSome (S.left input.old) (S.left input.new) (S.given input.old) (S.given input.new) }
+    ensures whole { command ≢ Usage → IsUnread result
+        ⊎ ReadsSome (S.left input.old) (S.left input.new) (S.given input.old) (S.given input.new) }
     ensures silent { (result ≡ 4) ⊎ (result ≡ 7) → K.taken out.new ≡ K.taken out.old }
 {
     match command {
@@ -128,41 +172,79 @@ pub fn top<S: Source, K: Sink>(alloc: Global, words: &[String], input: &mut S, o
     ensures status { IsStatus result }
 
     // 0 comes only where all of the input was read, and every line of it was made or it is accepted as a configuration.
-    ensures passed { IsReplay (map string_bytes words.now) → result ≡ 0 → Replays (S.left input.old) (K.taken out.old) (K.taken out.new) }
-    ensures accepted { IsCheck (map string_bytes words.now) → result ≡ 0 → Accepts (S.left input.old) (K.taken out.old) (K.taken out.new) }
-    ensures drained { (result ≡ 0) ⊎ ((result ≡ 3) ⊎ (result ≡ 8)) → IsDrained (S.left input.new) }
+    ensures passed { IsReplay (map string_bytes words.now) → result ≡ 0
+        → Replays (S.left input.old) (S.left input.new) (S.given input.old) (S.given input.new)
+        (K.taken out.old) (K.taken out.new) }
+    ensures accepted { IsCheck (map string_bytes words.now) → result ≡ 0
+        → Accepts (S.left input.old) (S.left input.new) (S.given input.old) (S.given input.new)
+        (K.taken out.old) (K.taken out.new) }
 
-    // 2 comes exactly where the words are no command, but where the usage can't be written.
+    // 2 comes exactly where the words are no command, but where the usage can't be written; the input isn't touched.
     ensures usage { result ≡ 2 → (IsCommand (map string_bytes words.now) → ⊥) × Adds usage_text (K.taken out.old) (K.taken out.new) }
     ensures usage_always { (IsCommand (map string_bytes words.now) → ⊥) → (result ≡ 2) ⊎ (result ≡ 5) }
+    ensures untouched { (IsCommand (map string_bytes words.now) → ⊥) → input.new ≡ input.old }
 
-    // 3 comes exactly at the first line of a script that breaks a rule.
-    ensures refused { result ≡ 3 → IsReplay (map string_bytes words.now) × Refuses (S.left input.old) (K.taken out.old) (K.taken out.new) }
+    // 3 comes exactly at the first line of a script that breaks a rule, but where the work stopped.
+    ensures refused { result ≡ 3 → IsReplay (map string_bytes words.now) ×
+        Refuses (S.left input.old) (S.left input.new) (S.given input.old) (S.given input.new)
+        (K.taken out.old) (K.taken out.new) }
+    ensures refused_always { IsReplay (map string_bytes words.now)
+        → OfAllInput (RefusedBy result) (S.left input.old) (S.given input.old) (S.given input.new) }
 
     // 8 comes exactly where the configuration is refused, before any line is made, but where the work stopped.
-    ensures misconfigured { IsReplay (map string_bytes words.now) → result ≡ 8 → Misconfigures (S.left input.old) (K.taken out.old) (K.taken out.new) }
-    ensures misconfigured_always { IsReplay (map string_bytes words.now) → MustRefuse (S.left input.old) result }
-    ensures rejected { IsCheck (map string_bytes words.now) → result ≡ 8 → Rejects (S.left input.old) (K.taken out.old) (K.taken out.new) }
-    ensures rejected_always { IsCheck (map string_bytes words.now) → MustReject (S.left input.old) result }
+    ensures misconfigured { IsReplay (map string_bytes words.now) → result ≡ 8
+        → Misconfigures (S.left input.old) (S.left input.new) (S.given input.old) (S.given input.new)
+        (K.taken out.old) (K.taken out.new) }
+    ensures misconfigured_always { IsReplay (map string_bytes words.now)
+        → OfAllInput (MisconfiguredBy result) (S.left input.old) (S.given input.old) (S.given input.new) }
+    ensures rejected { IsCheck (map string_bytes words.now) → result ≡ 8
+        → Rejects (S.left input.old) (S.left input.new) (S.given input.old) (S.given input.new)
+        (K.taken out.old) (K.taken out.new) }
+    ensures rejected_always { IsCheck (map string_bytes words.now)
+        → OfAllInput (RejectedBy result) (S.left input.old) (S.given input.old) (S.given input.new) }
 
-    // 4 comes only where the source's count rose, 5 only where one of the sink's did, with a prefix of the text.
+    // 4 comes exactly where the source failed, as its count tells; at most 67,108,864 bytes were read, which are left no more.
     ensures unread { result ≡ 4 → HasRisen (S.faults input.old) (S.faults input.new) }
-    ensures unwritten { result ≡ 5 → HasRisen (K.faults out.old) (K.faults out.new) ⊎ HasRisen (K.refusals out.old) (K.refusals out.new) }
-    ensures cut_off { IsReplay (map string_bytes words.now) → result ≡ 5 → CutsOff (S.left input.old) (K.taken out.old) (K.taken out.new) }
-    ensures check_cut_off { IsCheck (map string_bytes words.now) → result ≡ 5 → CutsOffCheck (S.left input.old) (K.taken out.old) (K.taken out.new) }
-    ensures usage_cut_off { (IsCommand (map string_bytes words.now) → ⊥) → result ≡ 5 → AddsPrefix usage_text (K.taken out.old) (K.taken out.new) }
+    ensures unread_always { result ≢ 4 → S.faults input.new ≡ S.faults input.old }
+    ensures unread_left { result ≡ 4 → ReadsUpTo longest_input
+        (S.left input.old) (S.left input.new) (S.given input.old) (S.given input.new) }
+
+    // 5 comes exactly where the sink failed or took nothing, as a count tells, and leaves a prefix of the text.
+    ensures unwritten { result ≡ 5
+        → HasRisen (K.faults out.old) (K.faults out.new) ⊎ HasRisen (K.refusals out.old) (K.refusals out.new) }
+    ensures unwritten_always { result ≢ 5 → IsCalm (K.faults out.old) (K.faults out.new) (K.refusals out.old) (K.refusals out.new) }
+    ensures cut_off { IsReplay (map string_bytes words.now) → result ≡ 5
+        → CutsOff (S.left input.old) (S.left input.new) (S.given input.old) (S.given input.new)
+        (K.taken out.old) (K.taken out.new) }
+    ensures check_cut_off { IsCheck (map string_bytes words.now) → result ≡ 5
+        → CutsOffCheck (S.left input.old) (S.left input.new) (S.given input.old) (S.given input.new)
+        (K.taken out.old) (K.taken out.new) }
+    ensures usage_cut_off { (IsCommand (map string_bytes words.now) → ⊥) → result ≡ 5
+        → AddsPrefix usage_text (K.taken out.old) (K.taken out.new) }
 
     // 6 leaves nothing, or a prefix of the text of a lawful journal.
-    ensures out_of_memory { result ≡ 6 → (K.taken out.new ≡ K.taken out.old) ⊎ (IsReplay (map string_bytes words.now) × CutsOff (S.left input.old) (K.taken out.old) (K.taken out.new)) }
+    ensures out_of_memory { result ≡ 6 → (K.taken out.new ≡ K.taken out.old) ⊎ (IsReplay (map string_bytes words.now) ×
+        CutsOff (S.left input.old) (S.left input.new) (S.given input.old) (S.given input.new)
+        (K.taken out.old) (K.taken out.new)) }
 
-    // 7 comes exactly where the input is longer than 67,108,864 bytes, but where reading it failed.
-    ensures too_long { result ≡ 7 → IsTooLong (S.left input.old) }
-    ensures too_long_always { IsCommand (map string_bytes words.now) → IfSome (S.left input.old) (λ bytes. 67108864 < length bytes → (result ≡ 7) ⊎ ((result ≡ 4) ⊎ (result ≡ 6))) }
+    // 7 comes exactly where the input is longer than 67,108,864 bytes, but where reading it failed; one byte more was read.
+    ensures too_long { result ≡ 7 → ReadsTooMuch
+        (S.left input.old) (S.left input.new) (S.given input.old) (S.given input.new) }
+    ensures too_long_always { IsCommand (map string_bytes words.now)
+        → MustBeShort (S.left input.old) (S.given input.old) (S.given input.new) result }
+
+    // At most 67,108,865 bytes are read, and what was read is left no more; all of the input but at 4, 6 and 7.
+    ensures reads { IsCommand (map string_bytes words.now)
+        → ReadsUpTo (longest_input + 1) (S.left input.old) (S.left input.new) (S.given input.old) (S.given input.new)
+        ⊎ ReadsSome (S.left input.old) (S.left input.new) (S.given input.old) (S.given input.new) }
+    ensures whole { IsCommand (map string_bytes words.now)
+        → IsUnread result ⊎ ReadsSome (S.left input.old) (S.left input.new) (S.given input.old) (S.given input.new) }
 
     // After 4 and 7 nothing was written.
     ensures silent { (result ≡ 4) ⊎ (result ≡ 7) → K.taken out.new ≡ K.taken out.old }
 {
-    // no script is both configured and refused, so 8 comes always
+    // no script is both configured and refused, and no line both passes and breaks a rule, so 3 and 8 come always
     one_configuration();
+    one_end();
     run(alloc, read_words(words), input, out)
 }

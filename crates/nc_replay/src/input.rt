@@ -1,9 +1,9 @@
 //! The whole of an input is read, and the whole of a text is written.
 //!
 //! Any source and any sink will do: what one tells of its bytes, the contracts carry on.
-ghost use Rattle.std.specs.Prelude.{◌≡◌, ◌≤◌, ◌<◌, ◌⊎◌, ◌++◌, length, vec_len, take, IfOk, OnOk, IfErr, OnErr};
+ghost use Rattle.std.specs.Prelude.{◌≡◌, ◌≤◌, ◌<◌, ◌⊎◌, ◌++◌, ◌∷◌, length, vec_len, take, IfOk, OnOk, IfErr, OnErr};
 ghost use Rattle.nc_outside.specs.Fault.{HasRisen};
-ghost use Rattle.nc_replay.specs.Input.{Takes, TakesUpTo, IsWhole, IsAtEnd, HasCause, Adds, AddsPrefix};
+ghost use Rattle.nc_replay.specs.Input.{longest_input, TakesFront, IsAtEnd, ReadsAll, ReadsUpTo, StopsReading, HasCause, Adds, AddsPrefix};
 ghost use Rattle.nc_replay.specs.declared.input.ReadFault.TheVariants.{Failed as ReadFailed, TooLong, NoMemory as ReadNoMemory};
 
 use nc_outside::{Failed, Sink, Source};
@@ -49,37 +49,47 @@ fn room(alloc: Global) -> Result<Vec<u8>, AllocError>
     vec![in alloc; 0u8; LONGEST_PIECE]
 }
 
-/// Reads once, puts what came behind the text, and says how many bytes that was.
+/// ReadsSoFar once, puts what came behind the text, and says how many bytes that was.
 fn read_more<S: Source>(
     input: &mut S,
     room: &mut [u8],
     text: &mut Vec<u8>,
 ) -> Result<usize, ReadFault>
+    requires { 0 < length room.old }
     ensures within { IfOk result (λ n. n ≤ length room.old) }
-    ensures taken { IfOk result (λ n. Takes (take n room.new) (S.left input.old) (S.left input.new)) }
+    ensures many { IfOk result (λ n. length (take n room.new) ≡ n) }
+    ensures given { IfOk result (λ n. S.given input.new ≡ take n room.new ∷ S.given input.old) }
+    ensures taken { IfOk result (λ n. TakesFront (take n room.new) (S.left input.old) (S.left input.new)) }
     ensures text { IfOk result (λ n. text.new.items ≡ text.old.items ++ take n room.new) }
-    ensures at_end { IfOk result (λ n. n ≡ 0 → 0 < length room.old → IsAtEnd (S.left input.old)) }
+    ensures at_end { IfOk result (λ n. n ≡ 0 → IsAtEnd (S.left input.old)) }
     ensures no_fault { OnOk result (S.faults input.new ≡ S.faults input.old) }
     ensures failed { IfErr result (λ fault. fault ≡ ReadFailed → HasRisen (S.faults input.old) (S.faults input.new)) }
+    ensures unfailed { IfErr result (λ fault. fault ≡ ReadNoMemory → S.faults input.new ≡ S.faults input.old) }
     ensures not_long { IfErr result (λ fault. fault ≡ TooLong → ⊥) }
-    ensures lost { OnErr result (TakesUpTo (length room.old) (S.left input.old) (S.left input.new)) }
+    ensures unmoved { IfErr result (λ fault. fault ≡ ReadFailed
+        → (S.left input.new ≡ S.left input.old) × (S.given input.new ≡ S.given input.old)) }
+    ensures lost { OnErr result (ReadsUpTo (length room.old)
+        (S.left input.old) (S.left input.new) (S.given input.old) (S.given input.new)) }
     ensures counted { S.faults input.old ≤ S.faults input.new }
 {
     let n = input.read(room)?;
-    text.extend_from_slice(&room[..n])?;
+    if n > 0 {
+        text.extend_from_slice(&room[..n])?;
+    }
     Ok(n)
 }
 
-/// Reads a whole input of at most 67,108,864 bytes.
+/// ReadsSoFar a whole input of at most 67,108,864 bytes.
 ///
 /// It errs where the source failed, where the input is longer, and where there is no memory;
 /// what it took by then is lost, at most 67,108,865 bytes.
 pub fn read_all<S: Source>(alloc: Global, input: &mut S) -> Result<Vec<u8>, ReadFault>
-    ensures whole { IfOk result (λ text. IsWhole text.items (S.left input.old) (S.left input.new)) }
-    ensures within { IfOk result (λ text. length text.items ≤ 67108864) }
+    ensures whole { IfOk result (λ text. ReadsAll text.items
+        (S.left input.old) (S.left input.new) (S.given input.old) (S.given input.new)) }
     ensures no_fault { OnOk result (S.faults input.new ≡ S.faults input.old) }
-    ensures cause { IfErr result (HasCause (S.left input.old) (S.faults input.old) (S.faults input.new)) }
-    ensures lost { OnErr result (TakesUpTo 67108865 (S.left input.old) (S.left input.new)) }
+    ensures stopped { IfErr result (StopsReading
+        (S.left input.old) (S.left input.new) (S.given input.old) (S.given input.new)) }
+    ensures cause { IfErr result (HasCause (S.faults input.old) (S.faults input.new)) }
     ensures counted { S.faults input.old ≤ S.faults input.new }
 {
     let mut text = Vec::new(alloc);

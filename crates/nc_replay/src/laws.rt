@@ -1,7 +1,7 @@
 //! Laws of the definitions in `specs/`, for the reader: each is proved, and none is run.
-ghost use Rattle.nc_replay.specs.Told.{StoresItsOrder};
+ghost use Rattle.nc_replay.specs.LineEvents.{StoresItsOrder};
 ghost use Rattle.nc_conf.specs.Answer.{NeverBoth};
-ghost use Rattle.nc_replay.specs.Sure.{HasOneFront, IsNeverBoth};
+ghost use Rattle.nc_replay.specs.Sure.{HasOneFront, IsNeverBoth, IsLineSure, NeverFails, HasOneFault};
 
 /// The stored event that a post tells keeps what was ordered: the length, the type and the body,
 /// and it expires the time-out after the clock.
@@ -16,4 +16,14 @@ pub fn one_configuration()
     ensures text { NeverBoth }
 {
     nc_conf::laws::one_answer();
+}
+
+/// The lines of a script are all made, or one of them breaks one rule first, at one place.
+pub fn one_end()
+    ensures line { IsLineSure }
+    ensures passed { NeverFails }
+    ensures fault { HasOneFault }
+{
+    nc_conf::laws::one_answer();
+    nc_script::laws::lines_are_sure();
 }

@@ -5,15 +5,19 @@
 #![tactic(auto)]
 
 mod answer;
+mod channel;
+mod channel_list;
 mod check;
 mod command;
 mod engine;
+mod events;
 mod fault;
 mod input;
 mod laws;
 mod plan;
 mod replay;
 mod script;
+mod waiting;
 
 pub use command::top;
-pub use laws::{one_configuration, post_stores_its_order};
+pub use laws::{one_configuration, one_end, post_stores_its_order};

@@ -2,6 +2,7 @@
 //!
 //! Below stand the lines of a text and `nc_conf`; above stands the command.
 ghost use Rattle.std.specs.Prelude.{◌≡◌, ◌≤◌, length, IfOk, IfErr};
+ghost use Rattle.nc_replay.specs.Input.{longest_input};
 ghost use Rattle.nc_replay.specs.Plan.{IsPlan, IsPlanFault};
 ghost use Rattle.nc_replay.specs.declared.plan.PlanFault.TheVariants.{NoMemory as PlanNoMemory};
 
@@ -48,10 +49,10 @@ impl From<ConfFault> for PlanFault {
 ///
 /// A script without the line `---` breaks the rule on the end of the text, at its length.
 pub fn plan_of(alloc: Global, script: &[u8]) -> Result<Plan<'_>, PlanFault>
-    requires { length script.now ≤ 67108864 }
+    requires { length script.now ≤ longest_input }
     ensures plan { IfOk result (λ plan. IsPlan script.now plan.base plan.lines.now plan.before) }
-    ensures within { IfOk result (λ plan. length plan.lines.now ≤ 67108864) }
-    ensures few { IfOk result (λ plan. plan.before ≤ 67108864) }
+    ensures within { IfOk result (λ plan. length plan.lines.now ≤ longest_input) }
+    ensures few { IfOk result (λ plan. plan.before ≤ longest_input) }
     ensures fault { IfErr result (IsPlanFault script.now) }
 {
     let Some(parts) = parts_of(script) else {

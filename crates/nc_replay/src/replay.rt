@@ -1,12 +1,12 @@
 //! The lines of a script are made one after the other, and the events of each are written once it is made.
 //!
 //! Below stand the reading of lines, the engine and the writing of texts; above stands the top call.
-ghost use Rattle.std.specs.Prelude.{◌≡◌, ◌≤◌, ◌⊎◌, length, IfOk, OnOk, OnErr, IsErrOf, IfNone, IfSome};
+ghost use Rattle.std.specs.Prelude.{◌≡◌, ◌≤◌, length, IfOk, IfErr, OnOk, OnErr, IfNone, IfSome};
 ghost use Rattle.nc_journal.specs.Text.{lines_text};
-ghost use Rattle.nc_outside.specs.Fault.{HasRisen};
 ghost use Rattle.nc_script.specs.Judge.{Judged};
+ghost use Rattle.nc_replay.specs.Input.{longest_input, HasStopped, IsCalm};
 ghost use Rattle.nc_replay.specs.Script.{lines_of};
-ghost use Rattle.nc_replay.specs.Machine.{Fits, events_of, after};
+ghost use Rattle.nc_replay.specs.Machine.{NumbersFit, events_of, after};
 ghost use Rattle.nc_replay.specs.Run.{is_among, takes_new, used_after, new_line, IsFirstName, MakesAll, MakesUntil, MakesSome};
 ghost use Rattle.nc_replay.specs.declared.replay.Stop.TheVariants.{Sink as SinkStop, NoMemory as NoMemoryStop};
 
@@ -64,7 +64,7 @@ fn takes_new(used: &[u64], line: &Line) -> bool
     }
 }
 
-/// Reads a line, which may take no number that was used.
+/// ReadsSoFar a line, which may take no number that was used.
 fn admit(alloc: Global, used: &[u64], text: &[u8]) -> Result<Line, LineFault>
     ensures { Judged (new_line used.now text.now) result }
 {
@@ -93,7 +93,7 @@ fn make(
     used: &mut Vec<u64>,
     line: Line,
 ) -> Result<EventList, NoMemory>
-    requires { Fits engine.old }
+    requires { NumbersFit engine.old }
     ensures events { IfOk result (λ done. done.events ≡ events_of line engine.old) }
     ensures engine { OnOk result (engine.new ≡ after line engine.old) }
     ensures used { OnOk result (used.new.items ≡ used_after line used.old.items) }
@@ -132,14 +132,13 @@ pub fn replay_lines<K: Sink>(
     text: &[u8],
     out: &mut K,
 ) -> Result<Option<Fault>, Stop>
-    requires few { length text.now ≤ 67108864 }
-    requires few_before { before ≤ 67108864 }
+    requires few { length text.now ≤ longest_input }
+    requires few_before { before ≤ longest_input }
     ensures all { IfOk result (λ fault. IfNone fault (MakesAll base (lines_of text.now) (K.taken out.old) (K.taken out.new))) }
     ensures until { IfOk result (λ fault. IfSome fault (MakesUntil base before (lines_of text.now) (K.taken out.old) (K.taken out.new))) }
     ensures some { OnErr result (MakesSome base (lines_of text.now) (K.taken out.old) (K.taken out.new)) }
-    ensures cause { IsErrOf result SinkStop → HasRisen (K.faults out.old) (K.faults out.new) ⊎ HasRisen (K.refusals out.old) (K.refusals out.new) }
-    ensures counted { K.faults out.old ≤ K.faults out.new }
-    ensures refusals_counted { K.refusals out.old ≤ K.refusals out.new }
+    ensures cause { IfErr result (HasStopped (K.faults out.old) (K.faults out.new) (K.refusals out.old) (K.refusals out.new)) }
+    ensures calm { OnOk result (IsCalm (K.faults out.old) (K.faults out.new) (K.refusals out.old) (K.refusals out.new)) }
 {
     let mut engine = Engine::new(alloc, base);
     let mut used = Vec::new(alloc);

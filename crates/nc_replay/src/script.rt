@@ -3,6 +3,7 @@
 //! Nothing is copied. What a line says is read by `nc_script`; above stands the replay.
 ghost use Rattle.std.specs.Prelude.{◌≡◌, ◌↔◌, ◌∷◌, ◌<◌, ◌≤◌, ◌==◌, length, position, IsTrue, IfSome, IfNone};
 ghost use Rattle.std.specs.List.{position_or_len, before_first, after_first};
+ghost use Rattle.nc_replay.specs.Input.{longest_input};
 ghost use Rattle.nc_replay.specs.Script.{lines_of, HasRule, LacksRule};
 ghost use Rattle.nc_replay.specs.Plan.{HasParts};
 
@@ -63,7 +64,7 @@ pub struct Parts<'t> {
 
 /// The parts of a script; None where no line of it is `---`.
 pub fn parts_of(script: &[u8]) -> Option<Parts<'_>>
-    requires { length script.now ≤ 67108864 }
+    requires { length script.now ≤ longest_input }
     ensures parts { IfSome result (λ parts. HasParts script.now parts.config.now parts.lines.now parts.before) }
     ensures within { IfSome result (λ parts. length parts.lines.now ≤ length script.now) }
     ensures few { IfSome result (λ parts. parts.before ≤ length script.now) }

@@ -1,6 +1,6 @@
 mod Words
 mod Judging
 mod Number
-mod Sure
+pub mod Sure
 mod Parts
 mod Lines

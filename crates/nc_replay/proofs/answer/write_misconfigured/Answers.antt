@@ -1,6 +1,5 @@
 use Rattle.nc_replay.specs.Top.{misconfigured_text}
-use Rattle.nc_replay.proofs.Loop.{always-err}
-use Rattle.nc_replay.proofs.Ends.{adds-none}
+use Rattle.nc_replay.proofs.Flows.{always-err, adds-none}
 use Rattle.nc_replay.proofs.answer.write_misconfigured.Goals as goal
 
 pub returns-in_err-text-clause-prefix : goal.returns-in_err-text-clause-prefix

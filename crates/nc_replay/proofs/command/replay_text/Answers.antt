@@ -1,6 +1,6 @@
 use Rattle.nc_replay.specs.Script.{lines_of}
 use Rattle.nc_replay.specs.Run.{MakesUntil}
-use Rattle.nc_replay.proofs.Loop.{always-err}
+use Rattle.nc_replay.proofs.Flows.{always-err}
 use Rattle.nc_replay.proofs.Ends.{nothing-written, some-holds, stops-later, fault-cut, fault-written}
 use Rattle.nc_replay.proofs.command.replay_text.Goals as goal
 

@@ -1,23 +1,48 @@
-use Rattle.std.proofs.Common.{map}
+use Rattle.std.proofs.Common.{inl, inr, map}
 use Rattle.std.specs.Prelude.{string_bytes}
-use Rattle.nc_replay.proofs.Always.{refuses_always, rejects_always, not-replay, is_replay, is_check, as_replay, as_usage}
+use Rattle.nc_replay.proofs.Always.{misconfigured-always, refused-always, rejected-always, must-be-short, not-replay, is_replay, is_check, as_replay, as_usage}
 use Rattle.nc_replay.proofs.command.top.Goals as goal
+
+pub returns-clause-refused_always : goal.returns-clause-refused_always
+returns-clause-refused_always g c =
+    let words = map string_bytes c.args.words.now in
+    let read = c.read_words.ensures in
+    let run = c.run.ensures in
+    λ is. refused-always c.one_configuration.ensures.both c.one_end.ensures.passed c.run.result _ _ _ _ _ _ (record {
+      status = run.status;
+      passed = run.passed (is_replay words c.read_words.result read is);
+      command = λ two. as_usage words c.read_words.result read (run.usage two).0 (inl is);
+      refused = λ three. (run.refused three).1;
+      misconfigured = run.misconfigured (is_replay words c.read_words.result read is);
+    })
 
 pub returns-clause-misconfigured_always : goal.returns-clause-misconfigured_always
 returns-clause-misconfigured_always g c =
     let words = map string_bytes c.args.words.now in
     let read = c.read_words.ensures in
-    λ is. refuses_always c.one_configuration.ensures.both words c.run.result _ _ _ c.run.ensures.status is
-    (λ r. c.run.ensures.passed (is_replay words c.read_words.result read r))
-    (λ two. as_usage words c.read_words.result read (c.run.ensures.usage two).0)
-    (λ three. (c.run.ensures.refused three).1)
+    let run = c.run.ensures in
+    λ is. misconfigured-always c.one_configuration.ensures.both c.run.result _ _ _ _ _ _ (record {
+      status = run.status;
+      passed = run.passed (is_replay words c.read_words.result read is);
+      command = λ two. as_usage words c.read_words.result read (run.usage two).0 (inl is);
+      refused = λ three. (run.refused three).1;
+      misconfigured = run.misconfigured (is_replay words c.read_words.result read is);
+    })
 
 pub returns-clause-rejected_always : goal.returns-clause-rejected_always
 returns-clause-rejected_always g c =
     let words = map string_bytes c.args.words.now in
     let read = c.read_words.ensures in
-    λ is. rejects_always c.one_configuration.ensures.text words c.run.result _ _ _ c.run.ensures.status is
-    (λ r. c.run.ensures.accepted (is_check words c.read_words.result read r))
-    (λ two. as_usage words c.read_words.result read (c.run.ensures.usage two).0)
-    (λ three. as_replay words c.read_words.result read (c.run.ensures.refused three).0)
-    (not-replay words is)
+    let run = c.run.ensures in
+    λ is. rejected-always c.one_configuration.ensures.text c.run.result _ _ _ _ _ _ run.status
+    (run.accepted (is_check words c.read_words.result read is))
+    (λ two. as_usage words c.read_words.result read (run.usage two).0 (inr is))
+    (λ three. not-replay words is (as_replay words c.read_words.result read (run.refused three).0))
+
+pub returns-clause-too_long_always : goal.returns-clause-too_long_always
+returns-clause-too_long_always g c =
+    let words = map string_bytes c.args.words.now in
+    let read = c.read_words.ensures in
+    λ is. must-be-short c.run.result _ _ _ _
+    (c.run.ensures.whole (λ usage. as_usage words c.read_words.result read usage is))
+    c.run.ensures.unread_left

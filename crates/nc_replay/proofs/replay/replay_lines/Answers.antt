@@ -4,14 +4,15 @@ use Rattle.nc_replay.specs.Script.{lines_of}
 use Rattle.nc_replay.specs.Input.{Adds, AddsPrefix}
 use Rattle.nc_replay.specs.Run.{new_line}
 use Rattle.nc_replay.proofs.Said.{breaks-rule}
-use Rattle.nc_replay.proofs.Loop.{made-fits, made-next, made-whole, made-fault, made-some, made-cut, always-err, text-made, made-begins, made-as}
+use Rattle.nc_replay.proofs.Flows.{always-err}
+use Rattle.nc_replay.proofs.Loop.{made-fits, made-next, made-whole, made-fault, made-some, made-cut, text-made, made-begins, made-as}
 use Rattle.nc_replay.proofs.replay.replay_lines.Goals as goal
 
 pub loop-rest-init : goal.loop-rest-init
 loop-rest-init g c = record {
   made = made-begins c.args.base c.args.before (g.K.Sink.taken c.args.out.now) c.args.text.now c.new-engine.result c.new-used.result.items c.new-engine.ensures c.new-used.ensures.items;
-  counted = omega arith;
-  refusals = omega arith;
+  faults = refl;
+  refusals = refl;
 }
 
 pub returns-in-Err-NoMemory-clause-some : goal.returns-in-Err-NoMemory-clause-some
@@ -55,8 +56,8 @@ loop-rest-preserved g c =
     let made = made-next _ _ _ _ _ _ _ _ _ _ _ text c.rest_after-rest.result.now line c.requires.few cut (c.rest_after-rest.ensures.shorter some) says written c.loop-rest.invariant.made in
     record {
       made = made-as _ _ _ _ _ _ _ _ _ _ _ _ c.in_ok-events.ensures.engine c.in_ok-events.ensures.used made;
-      counted = omega (arith, c.in_ok-write_all.ensures.counted);
-      refusals = omega (arith, c.in_ok-write_all.ensures.refusals_counted);
+      faults = c.in_ok-write_all.ensures.no_fault ∙ c.loop-rest.invariant.faults;
+      refusals = c.in_ok-write_all.ensures.no_refusal ∙ c.loop-rest.invariant.refusals;
     }
 
 pub returns-clause-all : goal.returns-clause-all

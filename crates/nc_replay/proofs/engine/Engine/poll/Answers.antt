@@ -3,7 +3,7 @@ use Rattle.std.proofs.lemmas.Result.{IfOk-weaker}
 use Rattle.nc_types.specs.Id.{Id}
 use Rattle.nc_replay.specs.Machine.{State, poll_events}
 use Rattle.nc_replay.proofs.Channels.{channel-at}
-use Rattle.nc_replay.proofs.Calls.{poll-told}
+use Rattle.nc_replay.proofs.EngineCalls.{poll-told}
 use Rattle.nc_replay.proofs.engine.Engine.poll.Goals as goal
 
 pub returns-clause-events : goal.returns-clause-events
