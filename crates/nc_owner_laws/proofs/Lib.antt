@@ -37,3 +37,4 @@ pub mod Staging
 pub mod Rising
 pub mod Refusing
 pub mod SlotKeeping
+pub mod LeavingKept

@@ -24,3 +24,4 @@ pub mod Stages
 pub mod Ascends
 pub mod Refused
 pub mod SlotRule
+pub mod LeavingKept

@@ -10,6 +10,7 @@ mod beside;
 mod filters;
 mod holds;
 mod keeping;
+mod leaving_rule;
 mod of_owner;
 mod places;
 mod reaping;
