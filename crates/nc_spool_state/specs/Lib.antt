@@ -1,0 +1,9 @@
+pub mod Key
+pub mod Place
+pub mod Spool
+pub mod Shelf
+pub mod Kept
+pub mod Choice
+pub mod Hear
+pub mod Edge
+pub mod Starting
