@@ -38,3 +38,4 @@ pub mod Rising
 pub mod Refusing
 pub mod SlotKeeping
 pub mod LeavingKept
+pub mod Counting

@@ -25,3 +25,4 @@ pub mod Ascends
 pub mod Refused
 pub mod SlotRule
 pub mod LeavingKept
+pub mod Counted

@@ -7,6 +7,7 @@
 mod answers;
 mod ascending;
 mod beside;
+mod counts;
 mod filters;
 mod holds;
 mod keeping;
