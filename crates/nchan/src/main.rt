@@ -1,12 +1,12 @@
 //! The program `nchan`: it hands the words, standard input and standard output to the top call.
 //!
-//! Everything that matters is in `nc_replay` below; here stand the real source and sink and `main`.
+//! Everything that matters is in `nc_replay` below; here stand the real source and sink, one run over them, and `main`.
 #![tactic(auto)]
 
+mod run;
 mod standard;
-#[cfg(test)]
-mod top_tests;
 
+use run::run;
 use standard::{StdSink, StdSource};
 use std::process::ExitCode;
 use std::{env, io};
@@ -19,5 +19,5 @@ fn main(rt: HostRuntime) -> io::Result<ExitCode> {
     }
     let mut input = StdSource::new(rt.reader());
     let mut out = StdSink::new(io::writer(&rt));
-    Ok(ExitCode::from(nc_replay::top(alloc, &words, &mut input, &mut out)))
+    Ok(ExitCode::from(run(alloc, &words, &mut input, &mut out)))
 }
