@@ -169,7 +169,7 @@ kept workers es h k l f = record { left = left_onto workers es h k.left l; finds
 -- ---- entries and messages
 
 -- the events of entries that leave are those of their messages
-abbrev lefts_of : ℕ → List ℕ → LeftCause → List Message → List Event
+abbrev pub lefts_of : ℕ → List ℕ → LeftCause → List Message → List Event
 lefts_of w c cause ms = map (λ m. Left w c m.id m.slot cause) ms
 
 abbrev left_of : ℕ → List ℕ → LeftCause → Brief → Event
@@ -183,7 +183,7 @@ messages_left : (w : ℕ) (c : List ℕ) (cause : LeftCause) (ms : List Message)
 messages_left w c cause [] = refl
 messages_left w c cause (m ∷ ms) = ap (λ (l : List Event). Left w c m.id m.slot cause ∷ l) (messages_left w c cause ms)
 
-same_lefts : (w : ℕ) (c : List ℕ) (cause : LeftCause) (es : List Entry) (ms : List Message) → map brief_entry es ≡ map brief_message ms → map (left_event w c cause) es ≡ lefts_of w c cause ms
+pub same_lefts : (w : ℕ) (c : List ℕ) (cause : LeftCause) (es : List Entry) (ms : List Message) → map brief_entry es ≡ map brief_message ms → map (left_event w c cause) es ≡ lefts_of w c cause ms
 same_lefts w c cause es ms same = entries_left w c cause es ∙ ap (map (left_of w c cause)) same ∙ sym (messages_left w c cause ms)
 
 map_filter : {X : Type 0} → (f : X → Brief) (test : Brief → Bool) (xs : List X) → map f (filter (λ x. test (f x)) xs) ≡ filter test (map f xs)
@@ -224,7 +224,7 @@ module _ (workers w : ℕ) (c : List ℕ) (mine : w ≡ owner_of workers c) wher
         (λ x later at. subst (λ l. HasMessage P l x.id x.slot) (sym (buffer_first m.id m.slot cause h)) (has-still P (buffer c h) x.id m.id x.slot later at)) ms rises.0 there.1),
   )
 
-  buffer_lefts : (cause : LeftCause) (ms : List Message) (h : List Event) → buffer c (onto (lefts_of w c cause ms) h) ≡ without_all ms (buffer c h)
+  pub buffer_lefts : (cause : LeftCause) (ms : List Message) (h : List Event) → buffer c (onto (lefts_of w c cause ms) h) ≡ without_all ms (buffer c h)
   buffer_lefts cause [] h = refl
   buffer_lefts cause (m ∷ ms) h = buffer_lefts cause ms (Left w c m.id m.slot cause ∷ h) ∙ ap (without_all ms) (buffer_first m.id m.slot cause h)
 

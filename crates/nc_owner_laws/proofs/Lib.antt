@@ -39,3 +39,4 @@ pub mod Refusing
 pub mod SlotKeeping
 pub mod LeavingKept
 pub mod Counting
+pub mod RemovalKept

@@ -26,3 +26,4 @@ pub mod Refused
 pub mod SlotRule
 pub mod LeavingKept
 pub mod Counted
+pub mod RemovalStands

@@ -16,6 +16,7 @@ mod of_owner;
 mod places;
 mod reaping;
 mod refusals;
+mod removing;
 mod slot_rule;
 mod slots;
 mod stages;
