@@ -5,3 +5,6 @@ pub mod Ranges
 pub mod Known
 pub mod Texts
 pub mod One
+mod Tidy
+mod Grown
+mod Early

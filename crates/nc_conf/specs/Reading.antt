@@ -1,5 +1,5 @@
 -- What reading a text answers: its configuration, or its first fault.
-use Rattle.std.specs.Prelude.{◌≡◌, ℕ, List, [], length, Option, Some, None, Result, Ok, Err}
+use Rattle.std.specs.Prelude.{◌≡◌, ◌<◌, ℕ, List, [], length, Option, Some, None, Result, Ok, Err}
 use Rattle.nc_types.specs.Config.{ConfigAt}
 use Rattle.nc_conf_lex.specs.declared.token.Token.{Token}
 use Rattle.nc_conf_lex.specs.Reading.{Reads}
@@ -8,7 +8,7 @@ use Rattle.nc_conf.specs.declared.fault.Fault.{Fault}
 use Rattle.nc_conf.specs.declared.read.ConfFault.{ConfFault}
 use Rattle.nc_conf.specs.declared.read.ConfFault.TheVariants.{Rule, NoMemory}
 use Rattle.nc_conf.specs.Syntax.{Item, IsSyntax, directives_of, closes_of, open_behind}
-use Rattle.nc_conf.specs.Reader.{SyntaxAt, words_of}
+use Rattle.nc_conf.specs.Reader.{SyntaxAt, words_of, all_faults}
 use Rattle.nc_conf.specs.Faults.{faults_of}
 use Rattle.nc_conf.specs.First.{IsFirst}
 use Rattle.nc_conf.specs.Config.{config_of}
@@ -51,3 +51,12 @@ pub record IsReading (text : List ℕ) (s : SyntaxAt) (bad : Option ℕ) : Type 
   pub directives : s.directives ≡ directives_of 0 [] items
   pub closes : s.closes ≡ closes_of 0 [] items
   pub blocks : s.blocks ≡ open_behind 0 [] items
+
+-- what was read of a text up to a place settles its first fault, where that stands before the place, whatever follows
+abbrev pub Settles : List ℕ → SyntaxAt → Option ℕ → ℕ → Type 0
+Settles text s bad p = (f : Fault) → IsFirst (all_faults (length text) s bad) (Some f) → f.at < p → HasFirst text (Some f)
+
+-- a text was read to its end or a lexical fault, or up to a place
+abbrev pub IsPart : List ℕ → SyntaxAt → Option ℕ → Option ℕ → Type 0
+IsPart text s bad None = IsReading text s bad
+IsPart text s bad (Some p) = Settles text s bad p

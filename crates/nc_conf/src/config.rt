@@ -15,32 +15,34 @@ use nc_types::{Bytes, Config, IdPart, IdText, List, Listen, Location, NoMemory, 
 use std::alloc::{AllocError, Global};
 
 /// The block around a block.
-fn around(lines: &Lines<'_>, block: Option<usize>) -> Option<usize>
-    ensures { result ≡ around lines.now block }
+fn around(directives: &[Directive<'_>], block: Option<usize>) -> Option<usize>
+    ensures { result ≡ around directives.now block }
 {
-    let d = lines.get(block?)?;
+    let d = directives.get(block?)?;
     d.within
 }
 
 /// The line of a setting: the block's own, else that of the block around it, else that of the next.
-fn inherited<'l, 'd>(
-    lines: &'l Lines<'d>,
+fn inherited<'l, 'd, 't>(
+    directives: &[Directive<'_>],
+    lines: &'l Lines<'d, 't>,
     block: Option<usize>,
     name: &'d [u8],
-) -> Option<&'l Line<'d>>
+) -> Option<&'l Line<'d, 't>>
+    requires { lines.now ≡ directives.now }
     ensures { option_copied result ≡ inherited lines.now block name.now }
 {
-    let outer = around(lines, block);
+    let outer = around(directives, block);
     if let Some(line) = lines.first(block, name) {
         return Some(line);
     }
     if let Some(line) = lines.first(outer, name) {
         return Some(line);
     }
-    lines.first(around(lines, outer), name)
+    lines.first(around(directives, outer), name)
 }
 
-fn number_or(otherwise: u32, line: Option<&Line<'_>>) -> u32
+fn number_or(otherwise: u32, line: Option<&Line<'_, '_>>) -> u32
     ensures { result ≡ number_or otherwise (option_copied line.entry) }
 {
     match line {
@@ -49,7 +51,7 @@ fn number_or(otherwise: u32, line: Option<&Line<'_>>) -> u32
     }
 }
 
-fn has_argument(text: &[u8], line: Option<&Line<'_>>) -> bool
+fn has_argument(text: &[u8], line: Option<&Line<'_, '_>>) -> bool
     ensures { result ≡ has_argument text.now (option_copied line.entry) }
 {
     match line {
@@ -58,66 +60,72 @@ fn has_argument(text: &[u8], line: Option<&Line<'_>>) -> bool
     }
 }
 
-fn buffer_length(lines: &Lines<'_>, block: Option<usize>) -> u32
+fn buffer_length(directives: &[Directive<'_>], lines: &Lines<'_, '_>, block: Option<usize>) -> u32
+    requires { lines.now ≡ directives.now }
     ensures is { result ≡ number_or 10 (inherited lines.now block (codes "nchan_message_buffer_length")) }
     ensures within { IsLength result }
 {
-    number_or(10, inherited(lines, block, b"nchan_message_buffer_length"))
+    number_or(10, inherited(directives, lines, block, b"nchan_message_buffer_length"))
 }
 
-fn message_timeout(lines: &Lines<'_>, block: Option<usize>) -> u32
+fn message_timeout(directives: &[Directive<'_>], lines: &Lines<'_, '_>, block: Option<usize>) -> u32
+    requires { lines.now ≡ directives.now }
     ensures is { result ≡ number_or 3600 (inherited lines.now block (codes "nchan_message_timeout")) }
     ensures within { IsSeconds result }
 {
-    number_or(3_600, inherited(lines, block, b"nchan_message_timeout"))
+    number_or(3_600, inherited(directives, lines, block, b"nchan_message_timeout"))
 }
 
-fn subscriber_timeout(lines: &Lines<'_>, block: Option<usize>) -> u32
+fn subscriber_timeout(directives: &[Directive<'_>], lines: &Lines<'_, '_>, block: Option<usize>) -> u32
+    requires { lines.now ≡ directives.now }
     ensures is { result ≡ number_or 0 (inherited lines.now block (codes "nchan_subscriber_timeout")) }
     ensures within { IsSeconds result }
 {
-    number_or(0, inherited(lines, block, b"nchan_subscriber_timeout"))
+    number_or(0, inherited(directives, lines, block, b"nchan_subscriber_timeout"))
 }
 
-fn name_limit(lines: &Lines<'_>, block: Option<usize>) -> u32
+fn name_limit(directives: &[Directive<'_>], lines: &Lines<'_, '_>, block: Option<usize>) -> u32
+    requires { lines.now ≡ directives.now }
     ensures is { result ≡ number_or 1024 (inherited lines.now block (codes "nchan_max_channel_id_length")) }
     ensures within { IsNameLimit result }
 {
     number_or(
         1_024,
-        inherited(lines, block, b"nchan_max_channel_id_length"),
+        inherited(directives, lines, block, b"nchan_max_channel_id_length"),
     )
 }
 
-fn body_limit(lines: &Lines<'_>, block: Option<usize>) -> u32
+fn body_limit(directives: &[Directive<'_>], lines: &Lines<'_, '_>, block: Option<usize>) -> u32
+    requires { lines.now ≡ directives.now }
     ensures is { result ≡ number_or 65536 (inherited lines.now block (codes "client_max_body_size")) }
     ensures within { IsBodyLimit result }
 {
-    number_or(65_536, inherited(lines, block, b"client_max_body_size"))
+    number_or(65_536, inherited(directives, lines, block, b"client_max_body_size"))
 }
 
 /// The settings of a block.
-fn settings_of(lines: &Lines<'_>, block: Option<usize>) -> Settings
+fn settings_of(directives: &[Directive<'_>], lines: &Lines<'_, '_>, block: Option<usize>) -> Settings
+    requires { lines.now ≡ directives.now }
     ensures { result ≡ settings_of lines.now block }
 {
-    let first_message = inherited(lines, block, b"nchan_subscriber_first_message");
+    let first_message = inherited(directives, lines, block, b"nchan_subscriber_first_message");
     Settings {
-        length: buffer_length(lines, block),
-        timeout: u64::from(message_timeout(lines, block)),
-        sub_timeout: u64::from(subscriber_timeout(lines, block)),
+        length: buffer_length(directives, lines, block),
+        timeout: u64::from(message_timeout(directives, lines, block)),
+        sub_timeout: u64::from(subscriber_timeout(directives, lines, block)),
         newest: has_argument(b"newest", first_message),
-        max_name: name_limit(lines, block),
-        max_body: body_limit(lines, block),
+        max_name: name_limit(directives, lines, block),
+        max_body: body_limit(directives, lines, block),
     }
 }
 
-fn is_way_of(way: &[u8], args: &[Word]) -> bool
+fn is_way_of(way: &[u8], args: &[Word<'_>]) -> bool
     ensures { result ≡ is_way_of way.now args.now }
 {
     args.is_empty() || has_word(args, way)
 }
 
-fn allows(way: &[u8], line: Option<&Line<'_>>) -> bool
+fn allows(way: &[u8], line: Option<&Line<'_, '_>>) -> bool
     ensures { result ≡ allows way.now (option_copied line.entry) }
 {
     match line {
@@ -127,7 +135,7 @@ fn allows(way: &[u8], line: Option<&Line<'_>>) -> bool
 }
 
 /// Whether subscribers may ask by a way at the location of this block.
-fn subscribes(lines: &Lines<'_>, block: usize, way: &[u8]) -> bool
+fn subscribes(lines: &Lines<'_, '_>, block: usize, way: &[u8]) -> bool
     ensures { result ≡ subscribes lines.now block way.now }
 {
     lines.has(block, b"nchan_pubsub") || allows(way, lines.first(Some(block), b"nchan_subscriber"))
@@ -187,7 +195,7 @@ fn parts_of(alloc: Global, pieces: &[&[u8]]) -> Result<List<IdPart>, NoMemory>
 }
 
 /// A word of an id, cut at each `$`.
-fn id_of(alloc: Global, word: &Word) -> Result<IdText, NoMemory>
+fn id_of(alloc: Global, word: &Word<'_>) -> Result<IdText, NoMemory>
     ensures { IfOk result (λ id. id ≡ id_of word.now) }
 {
     let pieces = pieces(alloc, word.text.as_slice())?;
@@ -195,7 +203,7 @@ fn id_of(alloc: Global, word: &Word) -> Result<IdText, NoMemory>
     Ok(IdText { parts })
 }
 
-fn each_id(alloc: Global, args: &[Word]) -> Result<List<IdText>, NoMemory>
+fn each_id(alloc: Global, args: &[Word<'_>]) -> Result<List<IdText>, NoMemory>
     ensures { IfOk result (λ ids. ids ≡ map id_of args.now) }
 {
     let mut ids = List::new(alloc);
@@ -205,7 +213,7 @@ fn each_id(alloc: Global, args: &[Word]) -> Result<List<IdText>, NoMemory>
     Ok(ids)
 }
 
-fn ids_of(alloc: Global, line: Option<&Line<'_>>) -> Result<List<IdText>, NoMemory>
+fn ids_of(alloc: Global, line: Option<&Line<'_, '_>>) -> Result<List<IdText>, NoMemory>
     ensures { IfOk result (λ ids. ids ≡ ids_of (option_copied line.entry)) }
 {
     match line {
@@ -214,7 +222,7 @@ fn ids_of(alloc: Global, line: Option<&Line<'_>>) -> Result<List<IdText>, NoMemo
     }
 }
 
-fn text_of(alloc: Global, word: Option<&Word>) -> Result<Bytes, NoMemory>
+fn text_of(alloc: Global, word: Option<&Word<'_>>) -> Result<Bytes, NoMemory>
     ensures { IfOk result (λ text. text ≡ text_of (option_copied word.entry)) }
 {
     match word {
@@ -226,10 +234,12 @@ fn text_of(alloc: Global, word: Option<&Word>) -> Result<Bytes, NoMemory>
 /// A location, by the number of its directive.
 fn location_of(
     alloc: Global,
-    lines: &Lines<'_>,
+    directives: &[Directive<'_>],
+    lines: &Lines<'_, '_>,
     i: usize,
-    d: &Directive,
+    d: &Directive<'_>,
 ) -> Result<Location, NoMemory>
+    requires { lines.now ≡ directives.now }
     ensures { IfOk result (λ l. l ≡ location_of lines.now i d.now) }
 {
     let args = d.args.as_slice();
@@ -243,28 +253,29 @@ fn location_of(
         longpoll: subscribes(lines, i, b"longpoll"),
         socket: subscribes(lines, i, b"websocket"),
         ids,
-        settings: settings_of(lines, Some(i)),
+        settings: settings_of(directives, lines, Some(i)),
     })
 }
 
 fn locations(
     alloc: Global,
-    directives: &[Directive],
-    lines: &Lines<'_>,
+    directives: &[Directive<'_>],
+    lines: &Lines<'_, '_>,
 ) -> Result<List<Location>, NoMemory>
+    requires { lines.now ≡ directives.now }
     ensures { IfOk result (λ ls. ls ≡ locations_from lines.now 0 directives.now) }
 {
     let mut locations = List::new(alloc);
     for (i, d) in directives.iter().enumerate() {
         if has_name(b"location", d) {
-            locations.push(location_of(alloc, lines, i, d)?)?;
+            locations.push(location_of(alloc, directives, lines, i, d)?)?;
         }
     }
     Ok(locations)
 }
 
 /// Adds the address of a `listen` line.
-fn push_listened(alloc: Global, listen: &mut List<Listen>, d: &Directive) -> Result<(), NoMemory>
+fn push_listened(alloc: Global, listen: &mut List<Listen>, d: &Directive<'_>) -> Result<(), NoMemory>
     ensures { OnOk result (listen.new ≡ listen.old ++ filter_map listened (d.now ∷ [])) }
 {
     let [word, ..] = d.args.as_slice() else {
@@ -278,7 +289,7 @@ fn push_listened(alloc: Global, listen: &mut List<Listen>, d: &Directive) -> Res
     listen.push(Listen { host, port })
 }
 
-fn listened(alloc: Global, directives: &[Directive]) -> Result<List<Listen>, NoMemory>
+fn listened(alloc: Global, directives: &[Directive<'_>]) -> Result<List<Listen>, NoMemory>
     ensures { IfOk result (λ ls. ls ≡ filter_map listened (filter (has_name (codes "listen")) directives.now)) }
 {
     let mut listen = List::new(alloc);
@@ -291,7 +302,7 @@ fn listened(alloc: Global, directives: &[Directive]) -> Result<List<Listen>, NoM
 }
 
 /// The addresses of the `listen` lines, or one where there are none.
-fn addresses(alloc: Global, directives: &[Directive]) -> Result<List<Listen>, NoMemory>
+fn addresses(alloc: Global, directives: &[Directive<'_>]) -> Result<List<Listen>, NoMemory>
     ensures { IfOk result (λ ls. ls ≡ addresses directives.now) }
 {
     let mut listen = listened(alloc, directives)?;
@@ -302,20 +313,20 @@ fn addresses(alloc: Global, directives: &[Directive]) -> Result<List<Listen>, No
     Ok(listen)
 }
 
-fn block_named(directives: &[Directive], name: &[u8]) -> Option<usize>
+fn block_named(directives: &[Directive<'_>], name: &[u8]) -> Option<usize>
     ensures { result ≡ block_named directives.now name.now }
 {
     directives.iter().position(|d| has_name(name, d))
 }
 
 /// The server's block, or where there is none the http block.
-fn base_block(directives: &[Directive]) -> Option<usize>
+fn base_block(directives: &[Directive<'_>]) -> Option<usize>
     ensures { result ≡ base_block directives.now }
 {
     block_named(directives, b"server").or(block_named(directives, b"http"))
 }
 
-fn workers(lines: &Lines<'_>) -> u8
+fn workers(lines: &Lines<'_, '_>) -> u8
     ensures is { result ≡ number_or 1 (line_in lines.now None (codes "worker_processes")) }
     ensures within { IsWorkers result }
 {
@@ -323,7 +334,7 @@ fn workers(lines: &Lines<'_>) -> u8
 }
 
 /// The slots of an http block.
-fn slots(lines: &Lines<'_>, http: Option<usize>) -> u32
+fn slots(lines: &Lines<'_, '_>, http: Option<usize>) -> u32
     ensures is { result ≡ number_or 1024 (line_in lines.now http (codes "nchan_slots")) }
     ensures within { IsSlots result }
 {
@@ -333,8 +344,8 @@ fn slots(lines: &Lines<'_>, http: Option<usize>) -> u32
 /// The configuration of directives without faults.
 pub fn config_of(
     alloc: Global,
-    directives: &[Directive],
-    lines: &Lines<'_>,
+    directives: &[Directive<'_>],
+    lines: &Lines<'_, '_>,
 ) -> Result<Config, NoMemory>
     requires { lines.now ≡ directives.now }
     ensures { IfOk result (λ c. c ≡ config_of directives.now) }
@@ -343,7 +354,7 @@ pub fn config_of(
         workers: workers(lines),
         slots: slots(lines, block_named(directives, b"http")),
         listen: addresses(alloc, directives)?,
-        base: settings_of(lines, base_block(directives)),
+        base: settings_of(directives, lines, base_block(directives)),
         locations: locations(alloc, directives, lines)?,
     })
 }

@@ -18,7 +18,7 @@ use nc_types::NoMemory;
 use std::alloc::Global;
 
 /// The kind of the block of that number, or of what is outside of all blocks.
-fn kind_of(directives: &[Directive], within: Option<usize>) -> Option<Block>
+fn kind_of(directives: &[Directive<'_>], within: Option<usize>) -> Option<Block>
     ensures { result ≡ kind_of directives.now within }
 {
     let Some(i) = within else {
@@ -31,9 +31,9 @@ fn kind_of(directives: &[Directive], within: Option<usize>) -> Option<Block>
 
 fn misplaced(
     first: Option<Fault>,
-    directives: &[Directive],
+    directives: &[Directive<'_>],
     row: Row,
-    d: &Directive,
+    d: &Directive<'_>,
 ) -> Option<Fault>
     ensures { result ≡ first_with first (misplaced directives.now row d.now) }
 {
@@ -44,11 +44,11 @@ fn misplaced(
     first_if(first, !may_stand, 4, d.name.at)
 }
 
-fn repeated<'d>(
+fn repeated<'d, 't>(
     first: Option<Fault>,
-    before: &Lines<'d>,
+    before: &Lines<'d, 't>,
     row: Row,
-    d: &'d Directive,
+    d: &'d Directive<'t>,
 ) -> Option<Fault>
     ensures { result ≡ first_with first (repeated before.now row d.now) }
 {
@@ -59,7 +59,7 @@ fn repeated<'d>(
     first_if(first, are_enough, 5, d.name.at)
 }
 
-fn too_many(first: Option<Fault>, args: &[Word], most: usize) -> Option<Fault>
+fn too_many(first: Option<Fault>, args: &[Word<'_>], most: usize) -> Option<Fault>
     ensures { result ≡ first_with first (too_many (slice_get args.now most)) }
 {
     match args.get(most) {
@@ -69,27 +69,27 @@ fn too_many(first: Option<Fault>, args: &[Word], most: usize) -> Option<Fault>
 }
 
 /// Whether a directive has too few arguments, a block where none belongs, or none where one does.
-fn is_short(row: Row, d: &Directive) -> bool
+fn is_short(row: Row, d: &Directive<'_>) -> bool
     ensures { result ≡ nat_lt (length d.now.args) row.least || not (same_bool (is_some row.opens) d.now.block) }
 {
     d.args.as_slice().len() < row.least || row.opens.is_some() != d.block
 }
 
-fn miscounted(first: Option<Fault>, row: Row, d: &Directive) -> Option<Fault>
+fn miscounted(first: Option<Fault>, row: Row, d: &Directive<'_>) -> Option<Fault>
     ensures { result ≡ first_with first (miscounted row d.now) }
 {
     let first = too_many(first, d.args.as_slice(), row.most);
     first_if(first, is_short(row, d), 6, d.end)
 }
 
-fn is_word(text: &[u8], word: &Word) -> bool
+fn is_word(text: &[u8], word: &Word<'_>) -> bool
     ensures { result ≡ is_word text.now word.now }
 {
     word.text.as_slice() == text
 }
 
 /// Whether a word is among some.
-pub fn has_word(words: &[Word], text: &[u8]) -> bool
+pub fn has_word(words: &[Word<'_>], text: &[u8]) -> bool
     ensures { result ≡ list_any (is_word text.now) words.now }
 {
     words.iter().any(|word| is_word(text, word))
@@ -103,7 +103,7 @@ struct Ways {
 }
 
 impl Ways {
-    fn with(self, word: &Word) -> Ways
+    fn with(self, word: &Word<'_>) -> Ways
         ensures { result ≡ ways_with self word.now }
     {
         Ways {
@@ -132,7 +132,7 @@ fn is_first_word(text: &[u8]) -> bool
     text == b"oldest".as_slice() || text == b"newest".as_slice()
 }
 
-fn is_before_path(before: &[Word], later: &[Word]) -> bool
+fn is_before_path(before: &[Word<'_>], later: &[Word<'_>]) -> bool
     ensures { result ≡ is_before_path before.now later.now }
 {
     match (before, later) {
@@ -141,7 +141,7 @@ fn is_before_path(before: &[Word], later: &[Word]) -> bool
     }
 }
 
-fn is_path_place(before: &[Word]) -> bool
+fn is_path_place(before: &[Word<'_>]) -> bool
     ensures { result ≡ is_path_place before.now }
 {
     match before {
@@ -150,7 +150,7 @@ fn is_path_place(before: &[Word]) -> bool
     }
 }
 
-fn breaks_location(before: &[Word], text: &[u8], later: &[Word]) -> bool
+fn breaks_location(before: &[Word<'_>], text: &[u8], later: &[Word<'_>]) -> bool
     ensures { result ≡ breaks_location before.now text.now later.now }
 {
     if is_before_path(before, later) {
@@ -161,7 +161,7 @@ fn breaks_location(before: &[Word], text: &[u8], later: &[Word]) -> bool
 }
 
 /// Whether an argument breaks the rule of its shape, between those before and behind it.
-fn breaks(shape: Shape, before: &[Word], ways: Ways, text: &[u8], later: &[Word]) -> bool
+fn breaks(shape: Shape, before: &[Word<'_>], ways: Ways, text: &[u8], later: &[Word<'_>]) -> bool
     requires { KnowsWays ways before.now }
     ensures { result ≡ breaks shape before.now text.now later.now }
 {
@@ -196,10 +196,10 @@ fn rule_of(shape: Shape) -> u8
 fn bad_arg(
     first: Option<Fault>,
     shape: Shape,
-    before: &[Word],
+    before: &[Word<'_>],
     ways: Ways,
-    word: &Word,
-    later: &[Word],
+    word: &Word<'_>,
+    later: &[Word<'_>],
 ) -> Option<Fault>
     requires { KnowsWays ways before.now }
     ensures { result ≡ first_with first (fault_if (breaks shape before.now word.now.text later.now) (rule_of shape) word.now.at) }
@@ -208,7 +208,7 @@ fn bad_arg(
     first_if(first, broken, rule_of(shape), word.at)
 }
 
-fn bad_args(first: Option<Fault>, shape: Shape, args: &[Word]) -> Option<Fault>
+fn bad_args(first: Option<Fault>, shape: Shape, args: &[Word<'_>]) -> Option<Fault>
     ensures { result ≡ first_with first (bad_args shape [] args.now) }
 {
     let mut first = first;
@@ -224,7 +224,7 @@ fn bad_args(first: Option<Fault>, shape: Shape, args: &[Word]) -> Option<Fault>
 }
 
 /// Whether a location has an `=` before its path.
-pub fn is_exact(args: &[Word]) -> bool
+pub fn is_exact(args: &[Word<'_>]) -> bool
     ensures { result ≡ is_exact args.now }
 {
     match args {
@@ -234,7 +234,7 @@ pub fn is_exact(args: &[Word]) -> bool
 }
 
 /// The path among the words of a location.
-pub fn path_of(args: &[Word]) -> Option<&Word>
+pub fn path_of<'w, 't>(args: &'w [Word<'t>]) -> Option<&'w Word<'t>>
     ensures { option_copied result ≡ path_of args.now }
 {
     match args {
@@ -244,7 +244,7 @@ pub fn path_of(args: &[Word]) -> Option<&Word>
     }
 }
 
-fn again<'d>(first: Option<Fault>, before: &Lines<'d>, row: Row, d: &'d Directive) -> Option<Fault>
+fn again<'d, 't>(first: Option<Fault>, before: &Lines<'d, 't>, row: Row, d: &'d Directive<'t>) -> Option<Fault>
     requires { row_of d.now.name.text ≡ Some row }
     ensures { result ≡ first_with first (again before.now row.shape d.now) }
 {
@@ -262,11 +262,11 @@ fn again<'d>(first: Option<Fault>, before: &Lines<'d>, row: Row, d: &'d Directiv
 }
 
 /// The first of the faults so far and those of a directive, after those before it.
-fn judge<'d>(
+fn judge<'d, 't>(
     first: Option<Fault>,
-    directives: &[Directive],
-    before: &Lines<'d>,
-    d: &'d Directive,
+    directives: &[Directive<'_>],
+    before: &Lines<'d, 't>,
+    d: &'d Directive<'t>,
 ) -> Option<Fault>
     ensures { result ≡ first_with first (directive_faults directives.now before.now d.now) }
 {
@@ -280,14 +280,40 @@ fn judge<'d>(
     again(first, before, row, d)
 }
 
-/// The first fault of directives, and the directives, to be looked up by block and name.
-#[derive(Drop)]
-pub struct Judged<'d> {
-    pub first: Option<Fault>,
-    pub lines: Lines<'d>,
+/// Whether the last directive repeats the one before it, where one alone may stand.
+fn is_repeated(directives: &[Directive<'_>], row: Row) -> bool {
+    match directives {
+        [.., before, last] => {
+            row.times == Some(1)
+                && before.within == last.within
+                && has_name(before.name.text.as_slice(), last)
+        }
+        _ => false,
+    }
 }
 
-fn judge_each<'d>(alloc: Global, directives: &'d [Directive]) -> Result<Judged<'d>, NoMemory>
+/// Whether the last directive breaks a rule, as far as it tells without a table of those before it.
+pub fn is_doubtful(directives: &[Directive<'_>]) -> bool {
+    let Some(d) = directives.last() else {
+        return false;
+    };
+    let Some(row) = row_of(d.name.text.as_slice()) else {
+        return true;
+    };
+    is_repeated(directives, row)
+        || misplaced(None, directives, row, d).is_some()
+        || miscounted(None, row, d).is_some()
+        || bad_args(None, row.shape, d.args.as_slice()).is_some()
+}
+
+/// The first fault of directives, and the directives, to be looked up by block and name.
+#[derive(Drop)]
+pub struct Judged<'d, 't> {
+    pub first: Option<Fault>,
+    pub lines: Lines<'d, 't>,
+}
+
+fn judge_each<'d, 't>(alloc: Global, directives: &'d [Directive<'t>]) -> Result<Judged<'d, 't>, NoMemory>
     ensures first { IfOk result (λ j. j.first ≡ first_with None (each_directive directives.now [] directives.now)) }
     ensures lines { IfOk result (λ j. j.lines ≡ directives.now) }
 {
@@ -300,7 +326,7 @@ fn judge_each<'d>(alloc: Global, directives: &'d [Directive]) -> Result<Judged<'
     Ok(Judged { first, lines })
 }
 
-fn has_role(lines: &Lines<'_>, block: usize) -> bool
+fn has_role(lines: &Lines<'_, '_>, block: usize) -> bool
     ensures { result ≡ has_role lines.now block }
 {
     lines.has(block, b"nchan_publisher")
@@ -309,13 +335,13 @@ fn has_role(lines: &Lines<'_>, block: usize) -> bool
 }
 
 /// Whether a directive has this name.
-pub fn has_name(name: &[u8], d: &Directive) -> bool
+pub fn has_name(name: &[u8], d: &Directive<'_>) -> bool
     ensures { result ≡ has_name name.now d.now }
 {
     d.name.text.as_slice() == name
 }
 
-fn is_location(directive: Option<&Directive>) -> bool
+fn is_location(directive: Option<&Directive<'_>>) -> bool
     ensures { result ≡ is_location (option_copied directive.entry) }
 {
     match directive {
@@ -324,26 +350,38 @@ fn is_location(directive: Option<&Directive>) -> bool
     }
 }
 
-fn nameless(first: Option<Fault>, lines: &Lines<'_>, close: &Close) -> Option<Fault>
+fn nameless(
+    first: Option<Fault>,
+    directives: &[Directive<'_>],
+    lines: &Lines<'_, '_>,
+    close: &Close,
+) -> Option<Fault>
+    requires { lines.now ≡ directives.now }
     ensures { result ≡ first_with first (nameless lines.now close.now) }
 {
-    let broken = is_location(lines.get(close.of))
+    let broken = is_location(directives.get(close.of))
         && has_role(lines, close.of)
         && !lines.has(close.of, b"nchan_channel_id");
     first_if(first, broken, 14, close.at)
 }
 
-fn first_of_closes(first: Option<Fault>, lines: &Lines<'_>, closes: &[Close]) -> Option<Fault>
+fn first_of_closes(
+    first: Option<Fault>,
+    directives: &[Directive<'_>],
+    lines: &Lines<'_, '_>,
+    closes: &[Close],
+) -> Option<Fault>
+    requires { lines.now ≡ directives.now }
     ensures { result ≡ first_with first (flat_map (nameless lines.now) closes.now) }
 {
     let mut first = first;
     for close in closes {
-        first = nameless(first, lines, close);
+        first = nameless(first, directives, lines, close);
     }
     first
 }
 
-fn unended(first: Option<Fault>, len: usize, reading: &Reading) -> Option<Fault>
+fn unended(first: Option<Fault>, len: usize, reading: &Reading<'_>) -> Option<Fault>
     ensures { result ≡ first_with first (unended len reading.now.syntax.blocks (words_of reading.now.syntax.begun) reading.now.syntax.broken reading.now.bad) }
 {
     let syntax = &reading.syntax;
@@ -358,16 +396,17 @@ fn unended(first: Option<Fault>, len: usize, reading: &Reading) -> Option<Fault>
 }
 
 /// The first fault of a text of some bytes, and its directives.
-pub fn judge_all<'r>(
+pub fn judge_all<'r, 't>(
     alloc: Global,
     len: usize,
-    reading: &'r Reading,
-) -> Result<Judged<'r>, NoMemory>
+    reading: &'r Reading<'t>,
+) -> Result<Judged<'r, 't>, NoMemory>
     ensures first { IfOk result (λ j. IsFirst (all_faults len reading.now.syntax reading.now.bad) j.first) }
     ensures lines { IfOk result (λ j. j.lines ≡ reading.now.syntax.directives) }
 {
-    let Judged { first, lines } = judge_each(alloc, reading.syntax.directives())?;
-    let first = first_of_closes(first, &lines, reading.syntax.closes());
+    let directives = reading.syntax.directives();
+    let Judged { first, lines } = judge_each(alloc, directives)?;
+    let first = first_of_closes(first, directives, &lines, reading.syntax.closes());
     let first = unended(first, len, reading);
     Ok(Judged { first, lines })
 }

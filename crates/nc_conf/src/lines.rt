@@ -2,7 +2,7 @@
 //!
 //! No directive is looked for among all the others, so the time to put in n directives grows as n log n.
 //! Below are the directives; the rules and the configuration stand above.
-ghost use Rattle.std.specs.Prelude.{◌≡◌, ◌+◌, ◌<◌, ◌^◌, ◌++◌, ◌∷◌, [], List, length, count_by, slice_get, IfOk, IfSome, OnOk};
+ghost use Rattle.std.specs.Prelude.{◌≡◌, ◌+◌, ◌<◌, ◌^◌, ◌++◌, ◌∷◌, [], List, length, count_by, IfOk, IfSome, OnOk};
 ghost use Rattle.std.specs.List.{list_any};
 ghost use Rattle.std.specs.Option.{option_copied};
 ghost use Rattle.nc_conf.specs.Faults.{is_named, has_line};
@@ -27,12 +27,12 @@ struct Key<'d> {
 
 /// A directive and the number that it sets, which is read once. Contracts see the directive.
 #[derive(Drop)]
-pub struct Line<'d> {
-    directive: &'d Directive,
+pub struct Line<'d, 't> {
+    directive: &'d Directive<'t>,
     number: Option<u32>,
 }
 
-impl<'d> Model for Line<'d> {
+impl<'d, 't> Model for Line<'d, 't> {
     ghost use Rattle.std.specs.Prelude.{◌≡◌};
     ghost use Rattle.nc_conf.specs.declared.syntax.Directive.{Directive as Seen};
     ghost use Rattle.nc_conf.specs.Config.{value_of};
@@ -57,7 +57,7 @@ fn value(shape: Shape, text: &[u8]) -> Option<u32>
 }
 
 /// The number that a directive sets.
-fn value_of(d: &Directive) -> Option<u32>
+fn value_of(d: &Directive<'_>) -> Option<u32>
     ensures { result ≡ value_of d.now }
 {
     let row = row_of(d.name.text.as_slice())?;
@@ -67,8 +67,8 @@ fn value_of(d: &Directive) -> Option<u32>
     }
 }
 
-impl<'d> Line<'d> {
-    fn new(directive: &'d Directive) -> Line<'d>
+impl<'d, 't> Line<'d, 't> {
+    fn new(directive: &'d Directive<'t>) -> Line<'d, 't>
         ensures { result ≡ directive.now }
     {
         Line {
@@ -77,7 +77,7 @@ impl<'d> Line<'d> {
         }
     }
 
-    fn copied(&self) -> Line<'d>
+    fn copied(&self) -> Line<'d, 't>
         ensures { result ≡ self.now }
     {
         Line {
@@ -86,7 +86,7 @@ impl<'d> Line<'d> {
         }
     }
 
-    pub fn directive(&self) -> &'d Directive
+    pub fn directive(&self) -> &'d Directive<'t>
         ensures { result.now ≡ self.now }
     {
         self.directive
@@ -102,12 +102,12 @@ impl<'d> Line<'d> {
 
 /// What is known of the directives of one name in one block.
 #[derive(Drop)]
-struct Entry<'d> {
-    first: Line<'d>,
+struct Entry<'d, 't> {
+    first: Line<'d, 't>,
     count: usize,
 }
 
-fn entry_with<'d>(known: Option<&Entry<'d>>, d: &'d Directive) -> Entry<'d>
+fn entry_with<'d, 't>(known: Option<&Entry<'d, 't>>, d: &'d Directive<'t>) -> Entry<'d, 't>
     requires { IfSome (option_copied known) (λ e. e.count + 1 < 2 ^ 64) }
     ensures { result ≡ entry_with (option_copied known.entry) d.now }
 {
@@ -124,7 +124,7 @@ fn entry_with<'d>(known: Option<&Entry<'d>>, d: &'d Directive) -> Entry<'d>
 }
 
 /// The path of a location with an `=`, or of one without.
-fn path_at(exact: bool, d: &Directive) -> Option<&Word>
+fn path_at<'w, 't>(exact: bool, d: &'w Directive<'t>) -> Option<&'w Word<'t>>
     ensures { option_copied result ≡ path_at exact d.now }
 {
     let args = d.args.as_slice();
@@ -136,10 +136,10 @@ fn path_at(exact: bool, d: &Directive) -> Option<&Word>
 }
 
 /// Adds the path of a directive that is a location with an `=`, or one without.
-fn add_path<'d>(
+fn add_path<'d, 't>(
     exact: bool,
     paths: &mut BTreeSet<Key<'d>>,
-    d: &'d Directive,
+    d: &'d Directive<'t>,
 ) -> Result<(), NoMemory>
     ensures { OnOk result ((ds : List Directive) → KnowsPaths exact ds paths.old → KnowsPaths exact (ds ++ d.now ∷ []) paths.new) }
 {
@@ -154,17 +154,17 @@ fn add_path<'d>(
 
 /// Directives in their order, which contracts see as the list of them.
 #[derive(Drop)]
-pub struct Lines<'d> {
-    directives: Vec<&'d Directive>,
+pub struct Lines<'d, 't> {
+    directives: Vec<&'d Directive<'t>>,
     /// The directives of each name in each block.
-    entries: BTreeMap<Key<'d>, Entry<'d>>,
+    entries: BTreeMap<Key<'d>, Entry<'d, 't>>,
     /// The paths of locations with an `=`.
     exact: BTreeSet<Key<'d>>,
     /// The paths of locations without one.
     prefixes: BTreeSet<Key<'d>>,
 }
 
-impl<'d> Model for Lines<'d> {
+impl<'d, 't> Model for Lines<'d, 't> {
     ghost use Rattle.std.specs.Prelude.{List, map, true, false};
     ghost use Rattle.nc_conf.specs.declared.syntax.Directive.{Directive as Seen};
     ghost use Rattle.nc_conf.specs.Lines.{KnowsLines, KnowsPaths};
@@ -176,9 +176,9 @@ impl<'d> Model for Lines<'d> {
     ghost invariant = { λ lines. KnowsLines (map (λ d. d.now) lines.directives.items) lines.entries × KnowsPaths true (map (λ d. d.now) lines.directives.items) lines.exact × KnowsPaths false (map (λ d. d.now) lines.directives.items) lines.prefixes };
 }
 
-impl<'d> Lines<'d> {
+impl<'d, 't> Lines<'d, 't> {
     /// No directives, with memory from `alloc`.
-    pub fn new(alloc: Global) -> Lines<'d>
+    pub fn new(alloc: Global) -> Lines<'d, 't>
         ensures { result ≡ [] }
     {
         Lines {
@@ -189,16 +189,8 @@ impl<'d> Lines<'d> {
         }
     }
 
-    /// The directive of that number.
-    pub fn get(&self, i: usize) -> Option<&'d Directive>
-        ensures { option_copied result ≡ slice_get self.now i }
-    {
-        let directive = self.directives.get(i)?;
-        Some(*directive)
-    }
-
     /// The first directive of a name in a block.
-    pub fn first(&self, block: Option<usize>, name: &'d [u8]) -> Option<&Line<'d>>
+    pub fn first(&self, block: Option<usize>, name: &'d [u8]) -> Option<&Line<'d, 't>>
         ensures { option_copied result ≡ line_in self.now block name.now }
     {
         let entry = self.entries.get(&Key { block, text: name })?;
@@ -235,7 +227,7 @@ impl<'d> Lines<'d> {
     }
 
     /// The directives and one more behind them.
-    pub fn with(self, d: &'d Directive) -> Result<Lines<'d>, NoMemory>
+    pub fn with(self, d: &'d Directive<'t>) -> Result<Lines<'d, 't>, NoMemory>
         requires { length self + 1 < 2 ^ 64 }
         ensures { IfOk result (λ lines. lines ≡ self.entry ++ d.now ∷ []) }
     {

@@ -1,26 +1,27 @@
 //! The directives of a text, up to where the text goes wrong.
-ghost use Rattle.std.specs.Prelude.{◌≡◌, IfOk, OnOk};
+ghost use Rattle.std.specs.Prelude.{◌≡◌, true, None, IfOk, OnOk};
 ghost use Rattle.nc_conf.specs.Syntax.{innermost};
 ghost use Rattle.nc_conf.specs.Reader.{empty, after_word, after_line, after_opening, after_closing, after};
-ghost use Rattle.nc_conf.specs.Reading.{IsReading};
+ghost use Rattle.nc_conf.specs.Reading.{IsPart};
 
-use nc_conf_lex::{LexFault, Lexer, Token};
-use nc_types::{Bytes, List, NoMemory};
+use crate::judge::is_doubtful;
+use nc_conf_lex::{LexFault, Lexer, Token, WordText};
+use nc_types::{List, NoMemory};
 use std::alloc::Global;
 use std::marker::Model;
 
 /// A word of a text and the place of its first byte.
 #[derive(Drop)]
-pub struct Word {
+pub struct Word<'t> {
     pub at: usize,
-    pub text: Bytes,
+    pub text: WordText<'t>,
 }
 
 /// A directive that was ended, by its `;` or by the `{` of its block.
 #[derive(Drop)]
-pub struct Directive {
-    pub name: Word,
-    pub args: List<Word>,
+pub struct Directive<'t> {
+    pub name: Word<'t>,
+    pub args: List<Word<'t>>,
     /// The place of the sign that ended it.
     pub end: usize,
     /// Whether that sign begins a block.
@@ -38,24 +39,24 @@ pub struct Close {
 
 /// A directive that has begun: its name and its arguments so far.
 #[derive(Drop)]
-pub struct Begun {
-    pub name: Word,
-    pub args: List<Word>,
+pub struct Begun<'t> {
+    pub name: Word<'t>,
+    pub args: List<Word<'t>>,
 }
 
 /// What was read of a text, up to the first sign that cannot stand at its place.
 #[derive(Drop)]
-pub struct Syntax {
-    pub directives: List<Directive>,
+pub struct Syntax<'t> {
+    pub directives: List<Directive<'t>>,
     pub closes: List<Close>,
     /// The numbers of the directives whose blocks are open, the innermost last.
     pub blocks: Vec<usize>,
-    pub begun: Option<Begun>,
+    pub begun: Option<Begun<'t>>,
     /// The place of a sign that cannot stand there.
     pub broken: Option<usize>,
 }
 
-impl Model for Syntax {
+impl<'t> Model for Syntax<'t> {
     ghost use Rattle.std.specs.Prelude.{reverse};
     ghost use Rattle.nc_conf.specs.Reader.{SyntaxAt};
 
@@ -64,8 +65,8 @@ impl Model for Syntax {
     ghost view = { λ s. record { directives = s.directives; closes = s.closes; blocks = reverse s.blocks.items; begun = s.begun; broken = s.broken } };
 }
 
-impl Syntax {
-    fn new(alloc: Global) -> Syntax
+impl<'t> Syntax<'t> {
+    fn new(alloc: Global) -> Syntax<'t>
         ensures { result ≡ empty }
     {
         Syntax {
@@ -77,7 +78,7 @@ impl Syntax {
         }
     }
 
-    pub fn directives(&self) -> &[Directive]
+    pub fn directives(&self) -> &[Directive<'t>]
         ensures { result.now ≡ self.now.directives }
     {
         self.directives.as_slice()
@@ -89,8 +90,8 @@ impl Syntax {
         self.closes.as_slice()
     }
 
-    fn add_word(&mut self, alloc: Global, word: Word) -> Result<(), NoMemory>
-        ensures { OnOk result (self.new ≡ after_word self.old word self.old.begun) }
+    fn add_word(&mut self, alloc: Global, word: Word<'t>) -> Result<(), NoMemory>
+        ensures { OnOk result (self.new ≡ after_word self.old word.entry self.old.begun) }
     {
         match self.begun.take() {
             None => {
@@ -162,9 +163,17 @@ impl Syntax {
         self.closes.push(Close { of, at })
     }
 
+    /// Whether a directive was ended that surely breaks a rule. It decides how far is read, not what is answered.
+    fn is_doubtful(&self) -> bool
+        ensures begun { result ≡ true → self.now.begun ≡ None }
+        ensures broken { result ≡ true → self.now.broken ≡ None }
+    {
+        self.begun.is_none() && self.broken.is_none() && is_doubtful(self.directives())
+    }
+
     /// Takes the next token. Nothing is taken behind a sign that cannot stand at its place.
-    fn take(&mut self, alloc: Global, token: Token) -> Result<(), NoMemory>
-        ensures { OnOk result (self.new ≡ after self.old token) }
+    fn take(&mut self, alloc: Global, token: Token<'t>) -> Result<(), NoMemory>
+        ensures { OnOk result (self.new ≡ after self.old token.entry) }
     {
         if self.broken.is_some() {
             return Ok(());
@@ -178,27 +187,47 @@ impl Syntax {
     }
 }
 
-/// The syntax of a text, and the place of a lexical fault that ended it.
+/// What was read of a text, and the place of a lexical fault that ended it.
 #[derive(Drop)]
-pub struct Reading {
-    pub syntax: Syntax,
+pub struct Reading<'t> {
+    pub syntax: Syntax<'t>,
     pub bad: Option<usize>,
+    /// The place of the rest, where reading stopped before the text's end.
+    pub rest: Option<usize>,
 }
 
-/// Reads the directives of a text.
-pub fn read_syntax(alloc: Global, text: &[u8]) -> Result<Reading, NoMemory>
-    ensures { IfOk result (λ r. IsReading text.now r.syntax r.bad) }
+/// Reads the directives of a text, the whole of it or up to one that surely breaks a rule.
+///
+/// A text is so no dearer than what stands before its first fault.
+pub fn read_syntax(alloc: Global, text: &[u8], whole: bool) -> Result<Reading<'_>, NoMemory>
+    ensures part { IfOk result (λ r. IsPart text.now r.syntax r.bad r.rest) }
+    ensures whole { whole ≡ true → IfOk result (λ r. r.rest ≡ None) }
 {
     let mut lexer = Lexer::new(alloc, text);
     let mut syntax = Syntax::new(alloc);
     loop {
+        if !whole && syntax.is_doubtful() {
+            nc_conf_lex::laws::one_comes();
+            return Ok(Reading {
+                syntax,
+                bad: None,
+                rest: Some(lexer.at()),
+            });
+        }
         match lexer.next() {
             Ok(Some(token)) => syntax.take(alloc, token)?,
-            Ok(None) => return Ok(Reading { syntax, bad: None }),
+            Ok(None) => {
+                return Ok(Reading {
+                    syntax,
+                    bad: None,
+                    rest: None,
+                });
+            }
             Err(LexFault::Bad { at }) => {
                 return Ok(Reading {
                     syntax,
                     bad: Some(at),
+                    rest: None,
                 });
             }
             Err(LexFault::NoMemory) => return Err(NoMemory),

@@ -1,3 +1,4 @@
+mod Plain
 pub mod Bytes
 pub mod Cut
 pub mod Fillers

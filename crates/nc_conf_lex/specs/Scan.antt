@@ -27,6 +27,9 @@ closing sign escaped (b ∷ bs) =
     else (if b == sign then Some 0
     else option_map next_place (closing sign (b == 92) bs))
 
+abbrev pub is_backslash : ℕ → Bool
+is_backslash b = b == 92
+
 -- what the inside of a quoted word stands for, where a backslash stands before the bytes or not
 abbrev pub unescape : ℕ → Bool → List ℕ → List ℕ
 unescape sign true [] = 92 ∷ []

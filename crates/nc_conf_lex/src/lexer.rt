@@ -1,18 +1,17 @@
 //! The lexer: it goes over a text, token by token.
-ghost use Rattle.std.specs.Prelude.{◌≡◌, ℕ, ◌≤◌, ◌<◌, ◌+◌, ◌^◌, length, drop, IfOk, IfSome};
+ghost use Rattle.std.specs.Prelude.{◌≡◌, ℕ, ◌≤◌, ◌<◌, ◌+◌, ◌^◌, false, length, drop, IfOk, IfSome};
 ghost use Rattle.std.specs.List.{prefix_len};
 ghost use Rattle.nc_conf_lex.specs.Byte.{goes_on};
 ghost use Rattle.nc_conf_lex.specs.Reading.{LexerAt, Next, Comes, Answers, IsTold};
-ghost use Rattle.nc_conf_lex.specs.Scan.{next_at, quoted_at, plain_at, Gives};
+ghost use Rattle.nc_conf_lex.specs.Scan.{next_at, quoted_at, plain_at, unescape, Gives};
 
 use crate::scan;
-use crate::token::{LexFault, Token};
-use nc_types::List;
-use std::alloc::Global;
+use crate::token::{LexFault, Token, WordText};
+use std::alloc::{AllocError, Global};
 use std::marker::Model;
 
 /// A plain word that begins a text at a place, and the place behind it.
-fn plain(alloc: Global, at: usize, text: &[u8]) -> Result<(Token, usize), LexFault>
+fn plain(at: usize, text: &[u8]) -> Result<(Token<'_>, usize), LexFault>
     requires { at + length text.now < 2 ^ 63 }
     ensures gives { Gives result (plain_at at text.now) }
     ensures within { IfOk result (λ word. word.1 ≤ at + length text.now) }
@@ -23,12 +22,28 @@ fn plain(alloc: Global, at: usize, text: &[u8]) -> Result<(Token, usize), LexFau
     if let Some(i) = scan::refused(word) {
         return Err(LexFault::Bad { at: at + i });
     }
-    let text = List::of(word.to_vec(alloc)?);
+    let text = WordText::standing(word);
     Ok((Token::Word { at, text }, at + len))
 }
 
+/// What the inside of a quoted word stands for. Memory is taken only where there is a backslash.
+fn unescaped(alloc: Global, sign: u8, inside: &[u8]) -> Result<WordText<'_>, AllocError>
+    ensures { IfOk result (λ text. text ≡ unescape sign false inside.now) }
+{
+    if scan::has_backslash(inside) {
+        Ok(WordText::written(scan::unescape(alloc, sign, inside)?))
+    } else {
+        Ok(WordText::standing(inside))
+    }
+}
+
 /// A quoted word whose opening sign stands at a place before this text, and the place behind it.
-fn quoted(alloc: Global, at: usize, sign: u8, text: &[u8]) -> Result<(Token, usize), LexFault>
+fn quoted(
+    alloc: Global,
+    at: usize,
+    sign: u8,
+    text: &[u8],
+) -> Result<(Token<'_>, usize), LexFault>
     requires { at + 1 + length text.now < 2 ^ 63 }
     ensures gives { Gives result (quoted_at at sign text.now) }
     ensures within { IfOk result (λ word. word.1 ≤ at + 1 + length text.now) }
@@ -45,7 +60,7 @@ fn quoted(alloc: Global, at: usize, sign: u8, text: &[u8]) -> Result<(Token, usi
     if !scan::may_follow(&text[len + 1..]) {
         return Err(LexFault::Bad { at: behind });
     }
-    let text = List::of(scan::unescape(alloc, sign, inside)?);
+    let text = unescaped(alloc, sign, inside)?;
     Ok((Token::Word { at, text }, behind))
 }
 
@@ -69,12 +84,19 @@ impl<'t> Model for Lexer<'t> {
 }
 
 impl<'t> Lexer<'t> {
-    /// A lexer at the text's first byte. The words that it gives take their memory from `alloc`.
+    /// A lexer at the text's first byte. The words that it gives stand in the text, or take their memory from `alloc`.
     pub fn new(alloc: Global, text: &'t [u8]) -> Lexer<'t>
         ensures text { result.text ≡ text.now }
         ensures at { result.at ≡ 0 }
     {
         Lexer { alloc, text, at: 0 }
+    }
+
+    /// The place up to which the text was read.
+    pub fn at(&self) -> usize
+        ensures { result ≡ self.now.at }
+    {
+        self.at
     }
 
     /// The next token. A call takes time in proportion to the bytes that it goes over.
@@ -83,7 +105,7 @@ impl<'t> Lexer<'t> {
     /// Bad comes exactly where no token begins behind them, and names the place of the text's first fault.
     /// After None, Bad and NoMemory the lexer is where it was: after None and Bad each further call answers the same,
     /// and after NoMemory the same token may be asked for again.
-    pub fn next(&mut self) -> Result<Option<Token>, LexFault>
+    pub fn next(&mut self) -> Result<Option<Token<'t>>, LexFault>
         ensures text { self.new.text ≡ self.old.text }
         // What it answers comes next, and what comes next it answers.
         ensures told { IsTold self.old.text self.old.at self.new.at result }
@@ -94,7 +116,7 @@ impl<'t> Lexer<'t> {
         self.step()
     }
 
-    fn step(&mut self) -> Result<Option<Token>, LexFault>
+    fn step(&mut self) -> Result<Option<Token<'t>>, LexFault>
         ensures text { self.new.text ≡ self.old.text }
         ensures answers { Answers result self.old.at self.new.at (next_at self.old.text self.old.at) }
         ensures within { self.new.at ≤ length self.new.text }
@@ -109,7 +131,7 @@ impl<'t> Lexer<'t> {
             [b'}', ..] => (Token::Closing { at }, at + 1),
             [b'"', text @ ..] => quoted(self.alloc, at, b'"', text)?,
             [b'\'', text @ ..] => quoted(self.alloc, at, b'\'', text)?,
-            [_, ..] => plain(self.alloc, at, rest)?,
+            [_, ..] => plain(at, rest)?,
         };
         self.at = behind;
         Ok(Some(token))

@@ -8,9 +8,7 @@
 pub mod laws;
 mod lexer;
 mod scan;
-#[cfg(test)]
-mod tests;
 mod token;
 
 pub use lexer::Lexer;
-pub use token::{LexFault, Token};
+pub use token::{LexFault, Token, WordText};

@@ -2,10 +2,10 @@
 //!
 //! The lexer puts them together.
 ghost use Rattle.std.specs.Prelude.{◌≡◌, ◌≤◌, ◌<◌, false, length, position, IfOk, IfSome};
-ghost use Rattle.std.specs.List.{prefix_len};
+ghost use Rattle.std.specs.List.{prefix_len, list_any};
 ghost use Rattle.nc_conf_lex.specs.Byte.{is_blank, ends_word, goes_on, is_refused, may_follow};
 ghost use Rattle.nc_conf_lex.specs.Spelling.{can_escape};
-ghost use Rattle.nc_conf_lex.specs.Scan.{gap_len, closing, unescape};
+ghost use Rattle.nc_conf_lex.specs.Scan.{gap_len, closing, is_backslash, unescape};
 
 use std::alloc::{AllocError, Global};
 
@@ -88,6 +88,13 @@ pub fn closing(sign: u8, text: &[u8]) -> Option<usize>
         }
     }
     None
+}
+
+/// Whether there is a backslash.
+pub fn has_backslash(text: &[u8]) -> bool
+    ensures { result ≡ list_any is_backslash text.now }
+{
+    text.iter().any(|byte| *byte == b'\\')
 }
 
 /// What the inside of a quoted word stands for.

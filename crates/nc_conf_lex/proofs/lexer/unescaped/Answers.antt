@@ -1,0 +1,6 @@
+use Rattle.std.proofs.Common.{rules, sym, ◌∙◌}
+use Rattle.nc_conf_lex.proofs.Plain.{stands}
+use Rattle.nc_conf_lex.proofs.lexer.unescaped.Goals as goal
+
+pub returns-else-has_backslash : goal.returns-else-has_backslash
+returns-else-has_backslash c = c.standing.ensures ∙ sym (stands c.args.sign c.args.inside.now (search rules))
