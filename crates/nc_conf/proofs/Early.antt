@@ -63,10 +63,10 @@ row_behind p ds before d None h = (h.name, tt)
 row_behind p ds before d (Some r) h =
     behind_both p (misplaced ds r d ++ repeated before r d ++ miscounted r d ++ bad_args r.shape [] d.args) (again before r.shape d)
     (behind_both p (misplaced ds r d ++ repeated before r d ++ miscounted r d) (bad_args r.shape [] d.args)
-        (behind_both p (misplaced ds r d ++ repeated before r d) (miscounted r d)
-            (behind_both p (misplaced ds r d) (repeated before r d) (if_behind p _ 4 d.name.at h.name) (if_behind p _ 5 d.name.at h.name))
-            (behind_both p (too_many (slice_get d.args r.most)) _ (many_behind p d.args r.most h.args) (if_behind p _ 6 d.end h.end)))
-        (args_behind p r.shape [] d.args h.args))
+    (behind_both p (misplaced ds r d ++ repeated before r d) (miscounted r d)
+    (behind_both p (misplaced ds r d) (repeated before r d) (if_behind p _ 4 d.name.at h.name) (if_behind p _ 5 d.name.at h.name))
+    (behind_both p (too_many (slice_get d.args r.most)) _ (many_behind p d.args r.most h.args) (if_behind p _ 6 d.end h.end)))
+    (args_behind p r.shape [] d.args h.args))
     (again_behind p before r.shape d h.args)
 
 each_behind : (p : ℕ) (all before later : List Directive) → AllByRecursion (IsLater p) later → Behind p (each_directive all before later)
@@ -197,13 +197,14 @@ all_back P (x ∷ xs) ys h = all_back P xs ys h.1
 first_stays : (p : ℕ) (f : Fault) (es cs us xs ys vs : List Fault) → f.at < p → IsFirst (es ++ cs ++ us) (Some f) → Behind p us → Behind p xs → Behind p ys → Behind p vs → IsFirst ((es ++ xs) ++ (cs ++ ys) ++ vs) (Some f)
 first_stays p f es cs us xs ys vs low h bu bx by bv =
     let P = IsNotBefore f in
-    let front = all_front P (es ++ cs) us h.1 in
-    (member (in_either f (es ++ cs) us h.0),
+    let front = all_front P (es ++ cs) us h.1 in (
+      member (in_either f (es ++ cs) us h.0),
       all_append P ((es ++ xs) ++ (cs ++ ys)) vs
-      (all_append P (es ++ xs) (cs ++ ys)
+          (all_append P (es ++ xs) (cs ++ ys)
           (all_append P es xs (all_front P es cs front) (later_ones p f xs low bx))
           (all_append P cs ys (all_back P es cs front) (later_ones p f ys low by)))
-      (later_ones p f vs low bv))
+          (later_ones p f vs low bv),
+    )
   where
     early : IsIn es f ⊎ IsIn cs f → IsIn ((es ++ xs) ++ (cs ++ ys) ++ vs) f
     early (inl i) = in_left f ((es ++ xs) ++ (cs ++ ys)) vs (in_left f (es ++ xs) (cs ++ ys) (in_left f es xs i))

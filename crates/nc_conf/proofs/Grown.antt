@@ -193,9 +193,9 @@ goes one text p s zero at t few k read grown =
 goes one text p s (suc fuel) at t few k read grown =
     ended text p at s t (one text at).0
     (λ token n comes. let m = moves text at token n comes in
-        goes one text p s fuel n (after t token) (omega (arith, few, m.moved, m.within)) (omega (arith, k, m.moved))
-        (read_next text at n t (after t token) token read comes refl)
-        (grow p s t.directives t.closes t.blocks t.begun t.broken token grown (omega (arith, k, m.place))))
+    goes one text p s fuel n (after t token) (omega (arith, few, m.moved, m.within)) (omega (arith, k, m.moved))
+    (read_next text at n t (after t token) token read comes refl)
+    (grow p s t.directives t.closes t.blocks t.begun t.broken token grown (omega (arith, k, m.place))))
     k read grown (one text at).1
 
 pub finish : OneComes → (text : List ℕ) (p : ℕ) (s : SyntaxAt) → s.begun ≡ None → s.broken ≡ None → ReadSoFar text p s → Finished text p s

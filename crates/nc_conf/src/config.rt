@@ -65,7 +65,10 @@ fn buffer_length(directives: &[Directive<'_>], lines: &Lines<'_, '_>, block: Opt
     ensures is { result ≡ number_or 10 (inherited lines.now block (codes "nchan_message_buffer_length")) }
     ensures within { IsLength result }
 {
-    number_or(10, inherited(directives, lines, block, b"nchan_message_buffer_length"))
+    number_or(
+        10,
+        inherited(directives, lines, block, b"nchan_message_buffer_length"),
+    )
 }
 
 fn message_timeout(directives: &[Directive<'_>], lines: &Lines<'_, '_>, block: Option<usize>) -> u32
@@ -73,15 +76,25 @@ fn message_timeout(directives: &[Directive<'_>], lines: &Lines<'_, '_>, block: O
     ensures is { result ≡ number_or 3600 (inherited lines.now block (codes "nchan_message_timeout")) }
     ensures within { IsSeconds result }
 {
-    number_or(3_600, inherited(directives, lines, block, b"nchan_message_timeout"))
+    number_or(
+        3_600,
+        inherited(directives, lines, block, b"nchan_message_timeout"),
+    )
 }
 
-fn subscriber_timeout(directives: &[Directive<'_>], lines: &Lines<'_, '_>, block: Option<usize>) -> u32
+fn subscriber_timeout(
+    directives: &[Directive<'_>],
+    lines: &Lines<'_, '_>,
+    block: Option<usize>,
+) -> u32
     requires { lines.now ≡ directives.now }
     ensures is { result ≡ number_or 0 (inherited lines.now block (codes "nchan_subscriber_timeout")) }
     ensures within { IsSeconds result }
 {
-    number_or(0, inherited(directives, lines, block, b"nchan_subscriber_timeout"))
+    number_or(
+        0,
+        inherited(directives, lines, block, b"nchan_subscriber_timeout"),
+    )
 }
 
 fn name_limit(directives: &[Directive<'_>], lines: &Lines<'_, '_>, block: Option<usize>) -> u32
@@ -100,11 +113,18 @@ fn body_limit(directives: &[Directive<'_>], lines: &Lines<'_, '_>, block: Option
     ensures is { result ≡ number_or 65536 (inherited lines.now block (codes "client_max_body_size")) }
     ensures within { IsBodyLimit result }
 {
-    number_or(65_536, inherited(directives, lines, block, b"client_max_body_size"))
+    number_or(
+        65_536,
+        inherited(directives, lines, block, b"client_max_body_size"),
+    )
 }
 
 /// The settings of a block.
-fn settings_of(directives: &[Directive<'_>], lines: &Lines<'_, '_>, block: Option<usize>) -> Settings
+fn settings_of(
+    directives: &[Directive<'_>],
+    lines: &Lines<'_, '_>,
+    block: Option<usize>,
+) -> Settings
     requires { lines.now ≡ directives.now }
     ensures { result ≡ settings_of lines.now block }
 {
@@ -275,7 +295,11 @@ fn locations(
 }
 
 /// Adds the address of a `listen` line.
-fn push_listened(alloc: Global, listen: &mut List<Listen>, d: &Directive<'_>) -> Result<(), NoMemory>
+fn push_listened(
+    alloc: Global,
+    listen: &mut List<Listen>,
+    d: &Directive<'_>,
+) -> Result<(), NoMemory>
     ensures { OnOk result (listen.new ≡ listen.old ++ filter_map listened (d.now ∷ [])) }
 {
     let [word, ..] = d.args.as_slice() else {

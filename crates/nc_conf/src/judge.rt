@@ -244,7 +244,12 @@ pub fn path_of<'w, 't>(args: &'w [Word<'t>]) -> Option<&'w Word<'t>>
     }
 }
 
-fn again<'d, 't>(first: Option<Fault>, before: &Lines<'d, 't>, row: Row, d: &'d Directive<'t>) -> Option<Fault>
+fn again<'d, 't>(
+    first: Option<Fault>,
+    before: &Lines<'d, 't>,
+    row: Row,
+    d: &'d Directive<'t>,
+) -> Option<Fault>
     requires { row_of d.now.name.text ≡ Some row }
     ensures { result ≡ first_with first (again before.now row.shape d.now) }
 {
@@ -313,7 +318,10 @@ pub struct Judged<'d, 't> {
     pub lines: Lines<'d, 't>,
 }
 
-fn judge_each<'d, 't>(alloc: Global, directives: &'d [Directive<'t>]) -> Result<Judged<'d, 't>, NoMemory>
+fn judge_each<'d, 't>(
+    alloc: Global,
+    directives: &'d [Directive<'t>],
+) -> Result<Judged<'d, 't>, NoMemory>
     ensures first { IfOk result (λ j. j.first ≡ first_with None (each_directive directives.now [] directives.now)) }
     ensures lines { IfOk result (λ j. j.lines ≡ directives.now) }
 {

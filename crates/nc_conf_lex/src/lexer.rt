@@ -38,12 +38,7 @@ fn unescaped(alloc: Global, sign: u8, inside: &[u8]) -> Result<WordText<'_>, All
 }
 
 /// A quoted word whose opening sign stands at a place before this text, and the place behind it.
-fn quoted(
-    alloc: Global,
-    at: usize,
-    sign: u8,
-    text: &[u8],
-) -> Result<(Token<'_>, usize), LexFault>
+fn quoted(alloc: Global, at: usize, sign: u8, text: &[u8]) -> Result<(Token<'_>, usize), LexFault>
     requires { at + 1 + length text.now < 2 ^ 63 }
     ensures gives { Gives result (quoted_at at sign text.now) }
     ensures within { IfOk result (λ word. word.1 ≤ at + 1 + length text.now) }

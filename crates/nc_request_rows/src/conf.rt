@@ -38,11 +38,7 @@ fn put_fault(out: &mut Vec<u8>, rule: u8, at: usize) -> Result<(), NoMemory> {
 
 /// What stands for a piece of the sample, without its mark, and the place of the mark, which is the end of the text
 /// where there is none.
-fn put_marked(
-    text: &mut Vec<u8>,
-    by: &str,
-    behind: &str,
-) -> Result<usize, NoMemory> {
+fn put_marked(text: &mut Vec<u8>, by: &str, behind: &str) -> Result<usize, NoMemory> {
     if let Some((left, right)) = by.split_once('@') {
         put_decoded(text, left)?;
         let at = text.len();
@@ -120,12 +116,7 @@ fn value(settings: &Settings, name: &str) -> u64 {
 }
 
 /// The value of a setting at the server and at each location.
-fn put_values(
-    alloc: Global,
-    text: &[u8],
-    name: &str,
-    out: &mut Vec<u8>,
-) -> Result<(), NoMemory> {
+fn put_values(alloc: Global, text: &[u8], name: &str, out: &mut Vec<u8>) -> Result<(), NoMemory> {
     let config = match read_config(alloc, text) {
         Ok(config) => config,
         Err(ConfFault::Rule { rule, at }) => return put_fault(out, rule, at),
@@ -212,7 +203,11 @@ fn number(text: &str) -> u32 {
 /// A location of a number.
 fn put_numbered(text: &mut Vec<u8>, i: u32) -> Result<(), NoMemory> {
     put_number(text, b"location /", u64::from(i))?;
-    put_text(text, b" { nchan_publisher; nchan_channel_id a$arg_b; } ", b"")
+    put_text(
+        text,
+        b" { nchan_publisher; nchan_channel_id a$arg_b; } ",
+        b"",
+    )
 }
 
 /// A row `LINES LOCATIONS`: the first fault of a text of a location with many lines, and of many locations.

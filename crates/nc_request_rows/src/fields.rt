@@ -94,12 +94,7 @@ fn put_called(name: &[u8], fields: &[Field], out: &mut Vec<u8>) -> Result<(), No
 }
 
 /// What a call says of the fields of a head: of a name, and of a text behind a `;` where there is one.
-fn put_found(
-    word: &str,
-    asked: &str,
-    fields: &[Field],
-    out: &mut Vec<u8>,
-) -> Result<(), NoMemory> {
+fn put_found(word: &str, asked: &str, fields: &[Field], out: &mut Vec<u8>) -> Result<(), NoMemory> {
     let (name, text) = asked.split_once(';').unwrap_or((asked, ""));
     let name = name.as_bytes();
     if word == "word" {
@@ -120,12 +115,7 @@ fn asks_fields(word: &str) -> bool {
 }
 
 /// What a row of fields or openings comes to, if it is one.
-pub fn put_row(
-    alloc: Global,
-    word: &str,
-    rest: &str,
-    out: &mut Vec<u8>,
-) -> Result<bool, NoMemory> {
+pub fn put_row(alloc: Global, word: &str, rest: &str, out: &mut Vec<u8>) -> Result<bool, NoMemory> {
     if word == "opening" {
         put_judged(alloc, rest, out)?;
     } else if word == "freed" {

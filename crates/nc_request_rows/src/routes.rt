@@ -146,24 +146,14 @@ fn put_decision(out: &mut Vec<u8>, decision: &Decision) -> Result<(), NoMemory> 
 }
 
 /// What a configuration decides of a row.
-fn put_decided(
-    alloc: Global,
-    conf: &Config,
-    row: &str,
-    out: &mut Vec<u8>,
-) -> Result<(), NoMemory> {
+fn put_decided(alloc: Global, conf: &Config, row: &str, out: &mut Vec<u8>) -> Result<(), NoMemory> {
     let request = request(alloc, row)?;
     let decision = rule(alloc, conf, &request)?;
     put_decision(out, &decision)
 }
 
 /// What a row comes to.
-pub fn put_row(
-    alloc: Global,
-    word: &str,
-    rest: &str,
-    out: &mut Vec<u8>,
-) -> Result<(), NoMemory> {
+pub fn put_row(alloc: Global, word: &str, rest: &str, out: &mut Vec<u8>) -> Result<(), NoMemory> {
     one_decision();
     decisions_are_sound();
     let conf = match read_config(alloc, ROUTES.as_bytes()) {

@@ -3,8 +3,6 @@ use Rattle.std.proofs.Common.{◌≡◌, ℕ, ◌<◌, ◌≤◌, Bool, true, fa
 use Rattle.std.specs.Prelude.{cond, nat_lt, ◌&&◌, fold}
 use Rattle.std.specs.List.{AllByRecursion, find}
 use Rattle.std.specs.Option.{option_or}
-use Rattle.httpdate.specs.Valid.{parts_secs}
-use Rattle.httpdate.proofs.Theorems.{IsDateText_unique}
 use Rattle.nc_types.specs.Settings.{SettingsAt}
 use Rattle.nc_types.specs.Config.{ConfigAt}
 use Rattle.nc_types.specs.declared.config.Location.{Location}
@@ -12,7 +10,7 @@ use Rattle.nc_types.specs.declared.request.Request.{Request}
 use Rattle.nc_types.specs.declared.request.Field.{Field}
 use Rattle.nc_types.specs.declared.start.Start.{Start}
 use Rattle.nc_types.specs.declared.start.Start.TheVariants as starts
-use Rattle.nc_ident.specs.Date.{SpellsDate}
+use Rattle.nc_ident.specs.Date.{SpellsOneSecond}
 use Rattle.nc_ident.proofs.Pieces.{one_list, one_cursor}
 use Rattle.nc_accept.specs.declared.opening.Opening.{Opening}
 use Rattle.nc_accept.specs.Opening.{IsOpening}
@@ -111,15 +109,12 @@ the_location path ls None h =
 
 -- ---- one start, and one opening
 
-one_second : (text : List ℕ) (a b : ℕ) → SpellsDate text a → SpellsDate text b → a ≡ b
-one_second text a b x y = sym x.2 ∙ (ap parts_secs (IsDateText_unique text x.0 y.0 x.1 y.1) ∙ y.2)
-
-one_start : (settings : SettingsAt) (n : ℕ) (g : Given) (a b : Start) → IsStart settings n g a → IsStart settings n g b → a ≡ b
-one_start settings n Nothing a b x y = x ∙ sym y
-one_start settings n (Date date) a b x y = x.2 ∙ ap (λ t. start_at t (replicate n (negsuc 0))) (one_second date x.0 y.0 x.1 y.1) ∙ sym y.2
-one_start settings n (DateAndTags date text) a b x y =
-    x.5 ∙ ap (λ t. start_at t x.2) (one_second date x.0 y.0 x.1 y.1) ∙ ap (start_at y.0) (one_list text x.2 y.2 x.3 y.3) ∙ sym y.5
-one_start settings n (Id text) a b x y = x.3 ∙ ap (λ c. starts.Given c) (one_cursor text x.0 y.0 x.1 y.1) ∙ sym y.3
+one_start : SpellsOneSecond → (settings : SettingsAt) (n : ℕ) (g : Given) (a b : Start) → IsStart settings n g a → IsStart settings n g b → a ≡ b
+one_start second settings n Nothing a b x y = x ∙ sym y
+one_start second settings n (Date date) a b x y = x.2 ∙ ap (λ t. start_at t (replicate n (negsuc 0))) (second date x.0 y.0 x.1 y.1) ∙ sym y.2
+one_start second settings n (DateAndTags date text) a b x y =
+    x.5 ∙ ap (λ t. start_at t x.2) (second date x.0 y.0 x.1 y.1) ∙ ap (start_at y.0) (one_list text x.2 y.2 x.3 y.3) ∙ sym y.5
+one_start second settings n (Id text) a b x y = x.3 ∙ ap (λ c. starts.Given c) (one_cursor text x.0 y.0 x.1 y.1) ∙ sym y.3
 
 same_key : (a b : List ℕ) → Some a ≡ Some b → a ≡ b
 same_key a b e = cc
@@ -138,32 +133,32 @@ same_name a b e = cc
 one_chan : (names : List (List ℕ)) (action : List ℕ → Decision) (a b : Decision) → (chan : List ℕ) × (names ≡ chan ∷ []) × (a ≡ action chan) → (chan : List ℕ) × (names ≡ chan ∷ []) × (b ≡ action chan) → a ≡ b
 one_chan names action a b x y = x.2 ∙ ap action (same_name x.0 y.0 (sym x.1 ∙ y.1)) ∙ sym y.2
 
-one_subscription : (way : Bool) (l : Location) (q : Request) (a b : Decision) → IsSubscription way l q a → IsSubscription way l q b → a ≡ b
-one_subscription true l q a b x y =
-    x.4 ∙ ap (λ s. decisions.Socket (names_of l q) s l.settings x.2) (one_start l.settings (length (names_of l q)) (given q) x.0 y.0 x.1 y.1)
+one_subscription : SpellsOneSecond → (way : Bool) (l : Location) (q : Request) (a b : Decision) → IsSubscription way l q a → IsSubscription way l q b → a ≡ b
+one_subscription second true l q a b x y =
+    x.4 ∙ ap (λ s. decisions.Socket (names_of l q) s l.settings x.2) (one_start second l.settings (length (names_of l q)) (given q) x.0 y.0 x.1 y.1)
     ∙ ap (λ o. decisions.Socket (names_of l q) y.0 l.settings o) (one_opening q.fields x.2 y.2 x.3 y.3) ∙ sym y.4
-one_subscription false l q a b x y =
-    x.2 ∙ ap (λ s. decisions.LongPoll (names_of l q) s l.settings) (one_start l.settings (length (names_of l q)) (given q) x.0 y.0 x.1 y.1) ∙ sym y.2
+one_subscription second false l q a b x y =
+    x.2 ∙ ap (λ s. decisions.LongPoll (names_of l q) s l.settings) (one_start second l.settings (length (names_of l q)) (given q) x.0 y.0 x.1 y.1) ∙ sym y.2
 
-one_action_of : (kind : Option Kind) (l : Location) (q : Request) (a b : Decision) → IsActionOf kind l q a → IsActionOf kind l q b → a ≡ b
-one_action_of (Some kinds.Publish) l q a b x y = one_chan (names_of l q) (λ chan. decisions.Publish chan l.settings (content_type q) q.body) a b x y
-one_action_of (Some kinds.Inform) l q a b x y = one_chan (names_of l q) decisions.Inform a b x y
-one_action_of (Some kinds.Delete) l q a b x y = one_chan (names_of l q) decisions.Delete a b x y
-one_action_of (Some kinds.Subscribe) l q a b x y = one_subscription (asks_socket q) l q a b x y
-one_action_of None l q a b x y = absurd x
+one_action_of : SpellsOneSecond → (kind : Option Kind) (l : Location) (q : Request) (a b : Decision) → IsActionOf kind l q a → IsActionOf kind l q b → a ≡ b
+one_action_of second (Some kinds.Publish) l q a b x y = one_chan (names_of l q) (λ chan. decisions.Publish chan l.settings (content_type q) q.body) a b x y
+one_action_of second (Some kinds.Inform) l q a b x y = one_chan (names_of l q) decisions.Inform a b x y
+one_action_of second (Some kinds.Delete) l q a b x y = one_chan (names_of l q) decisions.Delete a b x y
+one_action_of second (Some kinds.Subscribe) l q a b x y = one_subscription second (asks_socket q) l q a b x y
+one_action_of second None l q a b x y = absurd x
 
-one_action : (o : Option Location) (q : Request) (a b : Decision) → IsAction o q a → IsAction o q b → a ≡ b
-one_action None q a b x y = absurd x
-one_action (Some l) q a b x y = one_action_of (kind_of l q.method) l q a b x y
+one_action : SpellsOneSecond → (o : Option Location) (q : Request) (a b : Decision) → IsAction o q a → IsAction o q b → a ≡ b
+one_action second None q a b x y = absurd x
+one_action second (Some l) q a b x y = one_action_of second (kind_of l q.method) l q a b x y
 
-one_by : (rs : List Reason) (o : Option Location) (q : Request) (a b : Decision) → DecidesBy rs o q a → DecidesBy rs o q b → a ≡ b
-one_by [] o q a b x y = one_action o q a b x y
-one_by (r ∷ rs) o q a b (inl x) (inl y) = x.1 ∙ sym y.1
-one_by (r ∷ rs) o q a b (inl x) (inr y) = absurd (y.0 x.0)
-one_by (r ∷ rs) o q a b (inr x) (inl y) = absurd (x.0 y.0)
-one_by (r ∷ rs) o q a b (inr x) (inr y) = one_by rs o q a b x.1 y.1
+one_by : SpellsOneSecond → (rs : List Reason) (o : Option Location) (q : Request) (a b : Decision) → DecidesBy rs o q a → DecidesBy rs o q b → a ≡ b
+one_by second [] o q a b x y = one_action second o q a b x y
+one_by second (r ∷ rs) o q a b (inl x) (inl y) = x.1 ∙ sym y.1
+one_by second (r ∷ rs) o q a b (inl x) (inr y) = absurd (y.0 x.0)
+one_by second (r ∷ rs) o q a b (inr x) (inl y) = absurd (x.0 y.0)
+one_by second (r ∷ rs) o q a b (inr x) (inr y) = one_by second rs o q a b x.1 y.1
 
-pub one_decision : (conf : ConfigAt) (q : Request) (a b : Decision) → Decides conf q a → Decides conf q b → a ≡ b
-one_decision conf q a b x y =
+pub one_decision : SpellsOneSecond → (conf : ConfigAt) (q : Request) (a b : Decision) → Decides conf q a → Decides conf q b → a ≡ b
+one_decision second conf q a b x y =
     let same : x.location ≡ y.location = sym (the_location q.path conf.locations x.location x.is_location) ∙ the_location q.path conf.locations y.location y.is_location in
-    one_by all_rules y.location q a b (subst (λ (o : Option Location). DecidesBy all_rules o q a) same x.decided) y.decided
+    one_by second all_rules y.location q a b (subst (λ (o : Option Location). DecidesBy all_rules o q a) same x.decided) y.decided

@@ -2,8 +2,6 @@
 use Rattle.std.proofs.Common.{◌≡◌, ℕ, zero, suc, List, [], ◌∷◌, length, Option, Some, None, refl, sym, ◌∙◌, ap, subst, arith, replicate, negsuc}
 use Rattle.std.specs.Prelude.{Result, Err, IfErr, false, ◌==◌}
 use Rattle.std.proofs.lemmas.Int.{ints}
-use Rattle.httpdate.specs.declared.date.HttpDate.{HttpDate}
-use Rattle.httpdate.proofs.CalendarLemmas.{days_from_civil_bound}
 use Rattle.nc_types.specs.Id.{IsTime}
 use Rattle.nc_types.specs.Cursor.{CursorAt, AreTags}
 use Rattle.nc_types.specs.Settings.{SettingsAt}
@@ -19,12 +17,6 @@ use Rattle.nc_ident.proofs.Pieces.{one_list, one_cursor}
 use Rattle.nc_route.specs.Begin.{Given, IsNoDate, given_by_date, given_by_socket, start_at, HasNoDate, AreMalformed, AreOthers, IsStart}
 use Rattle.nc_route.specs.Begin.Given.{Nothing, Date, DateAndTags, Id}
 use Rattle.nc_route.specs.Steps.{IsNoStart, unread}
-
--- a date ends before the year 10000
-pub is_time : (text : List ℕ) (time : ℕ) → SpellsDate text time → IsTime time
-is_time text time x =
-    let d : HttpDate = x.0 in
-    omega (arith, days_from_civil_bound d.parts.year d.parts.mon d.parts.day d.civil, d.time.0, d.time.1, d.time.2, x.2)
 
 pub all_blank : (n : ℕ) → AreTags (replicate n (negsuc 0))
 all_blank zero = tt

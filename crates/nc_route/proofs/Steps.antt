@@ -1,6 +1,6 @@
 -- The decision, rule by rule.
 use Rattle.std.proofs.Common.{◌≡◌, ℕ, ◌<◌, Bool, true, false, List, [], ◌∷◌, length, Option, Some, None, refl, sym, ◌∙◌, ap, subst, inl, inr, arith}
-use Rattle.std.specs.Prelude.{Result, Ok, Err, IfOk, slice_get, nat_lt}
+use Rattle.std.specs.Prelude.{Result, Ok, Err, IfOk, IfErr, slice_get, nat_lt}
 use Rattle.std.proofs.lemmas.Bool.{both_ways}
 use Rattle.nc_types.specs.Config.{ConfigAt}
 use Rattle.nc_types.specs.declared.list.NoMemory.{NoMemory}
@@ -22,11 +22,11 @@ use Rattle.nc_route.specs.declared.start.StartRefusal.{StartRefusal}
 use Rattle.nc_route.specs.declared.start.StartRefusal.TheVariants as refusals
 use Rattle.nc_route.specs.Query.{ids_of}
 use Rattle.nc_route.specs.Begin.{asks_socket, given, IsStart}
-use Rattle.nc_route.specs.Rules.{begins_slash, has_role, has_place, Decides, kind_of, IsSubscription, names_of, is_subscription, subscribes, start_rules, subscription_rules, list_rules, location_rules, IsActionOf, IsAction, refused}
+use Rattle.nc_route.specs.Rules.{begins_slash, has_role, has_place, Decides, KeepsEarly, kind_of, IsSubscription, names_of, is_subscription, subscribes, start_rules, subscription_rules, list_rules, location_rules, IsActionOf, IsAction, refused}
 use Rattle.nc_route.specs.Place.{IsLocationOf}
 use Rattle.nc_route.proofs.Places.{is_location}
 use Rattle.nc_route.proofs.Starts.{has_date, well_formed, of_the_names}
-use Rattle.nc_route.specs.Steps.{IsNoStart, DecidesAt, only_name, for_one, IsStartRefusal, IsIdRefusal, location_of}
+use Rattle.nc_route.specs.Steps.{IsNoStart, DecidesAt, Fits, only_name, for_one, IsStartRefusal, IsIdRefusal, location_of}
 
 pub if_ok : (P Q : Decision → Type 0) (r : Result Decision NoMemory) → ((d : Decision) → P d → Q d) → IfOk r P → IfOk r Q
 if_ok P Q (Ok d) f h = f d h
@@ -211,3 +211,25 @@ placed conf q l r is slash role h =
 pub found_so : (path other : List ℕ) (ls more : List Location) (o p : Option Location) → path ≡ other → ls ≡ more → o ≡ p → IsLocationOf path ls o → IsLocationOf other more p
 found_so path other ls more o p e f g h =
     subst (λ (x : List ℕ). IsLocationOf x more p) e (subst (λ (x : List Location). IsLocationOf path x p) f (subst (λ (x : Option Location). IsLocationOf path ls x) g h))
+
+-- ---- where memory may be wanting
+
+pub if_err : (P Q : Type 0) (r : Result Decision NoMemory) → (P → Q) → IfErr r (λ e. P) → IfErr r (λ e. Q)
+if_err P Q (Ok d) f h = h
+if_err P Q (Err e) f h = f h
+
+pub err_of : (P : Type 0) (r : Result Decision NoMemory) → P → IfErr r (λ e. P)
+err_of P (Ok d) h = tt
+err_of P (Err e) h = h
+
+pub fits : (l : Location) (q : Request) (kind : Kind) → nat_lt l.settings.max_body (length q.body) ≡ false → kind_of l q.method ≡ Some kind → Fits l q
+fits l q kind short e = (not_more l.settings.max_body (length q.body) short, (a_kind (kind_of l q.method) kind e, tt))
+
+pub keeps_early : (conf : ConfigAt) (q : Request) (l : Location) (r : Result Decision NoMemory) → IsLocationOf q.path conf.locations (Some l) → begins_slash q.path ≡ true → has_role l ≡ true → IfErr r (λ e. Fits l q) → IfErr r (λ e. KeepsEarly conf q)
+keeps_early conf q l r is slash role h =
+    if_err (Fits l q) (KeepsEarly conf q) r
+    (λ fit. record {
+      location = Some l;
+      is_location = is;
+      kept = (λ b. both_ways (begins_slash q.path) b slash, (λ b. both_ways (has_role l) b role, fit));
+    }) h

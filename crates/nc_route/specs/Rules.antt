@@ -194,3 +194,20 @@ pub record Decides (conf : ConfigAt) (q : Request) (d : Decision) : Type 0 where
   pub location : Option Location
   pub is_location : IsLocationOf q.path conf.locations location
   pub decided : DecidesBy all_rules location q d
+
+-- ---- where memory may be wanting
+
+-- the rules that are judged before memory is taken
+abbrev pub early_rules : List Reason
+early_rules = reasons.NoSlash ∷ reasons.NoPlace ∷ reasons.LongBody ∷ reasons.OtherMethod ∷ []
+
+-- a request keeps some rules
+abbrev pub Keeps : List Reason → Option Location → Request → Type 0
+Keeps [] found q = Unit {0}
+Keeps (r ∷ rs) found q = (Breaks r found q → ⊥) × Keeps rs found q
+
+-- a request keeps the rules that are judged before memory is taken
+pub record KeepsEarly (conf : ConfigAt) (q : Request) : Type 0 where
+  pub location : Option Location
+  pub is_location : IsLocationOf q.path conf.locations location
+  pub kept : Keeps early_rules location q

@@ -18,7 +18,7 @@ use Rattle.nc_route.specs.declared.start.StartRefusal.{StartRefusal}
 use Rattle.nc_route.specs.declared.start.StartRefusal.TheVariants as refusals
 use Rattle.nc_route.specs.Place.{is_exactly, is_front}
 use Rattle.nc_route.specs.Begin.{Given, HasNoDate, AreMalformed, AreOthers}
-use Rattle.nc_route.specs.Rules.{refused, DecidesBy}
+use Rattle.nc_route.specs.Rules.{refused, DecidesBy, Keeps}
 
 -- ---- the location
 
@@ -53,6 +53,10 @@ IsNoStart n given refusals.NoMemory = Unit {0}
 -- what is decided at a location by a list of rules
 abbrev pub DecidesAt : List Reason → Location → Request → Decision → Type 0
 DecidesAt rs l q d = DecidesBy rs (Some l) q d
+
+-- the body and the method of a request are right at its location
+abbrev pub Fits : Location → Request → Type 0
+Fits l q = Keeps (reasons.LongBody ∷ reasons.OtherMethod ∷ []) (Some l) q
 
 -- the one name of a list of one
 abbrev pub only_name : List (List ℕ) → Option (List ℕ)

@@ -6,9 +6,9 @@ ghost use Rattle.nc_route.specs.declared.kind.Kind.TheVariants as kinds;
 ghost use Rattle.nc_multi.specs.Names.{IsListOf, IsRefused};
 ghost use Rattle.nc_route.specs.Begin.{asks_socket};
 ghost use Rattle.nc_route.specs.Query.{ids_of};
-ghost use Rattle.nc_route.specs.Rules.{Decides, location_rules, list_rules, subscription_rules, names_of, kind_of, content_type, refused};
+ghost use Rattle.nc_route.specs.Rules.{Decides, location_rules, list_rules, subscription_rules, names_of, kind_of, content_type, refused, KeepsEarly};
 ghost use Rattle.nc_types.specs.declared.request.Allow.TheVariants as allows;
-ghost use Rattle.nc_route.specs.Steps.{DecidesAt, only_name, for_one, Opens, IsStartRefusal, IsIdRefusal};
+ghost use Rattle.nc_route.specs.Steps.{DecidesAt, Fits, only_name, for_one, Opens, IsStartRefusal, IsIdRefusal};
 
 use crate::decision::Decision;
 use crate::kind::{Kind, allowed_at, has_role, kind_of};
@@ -238,7 +238,8 @@ fn channels(alloc: Global, settings: &Settings, ids: &[Bytes]) -> Result<ChanLis
 
 /// What is decided of a request at its location.
 fn at_location(alloc: Global, location: &Location, request: &Request) -> Result<Decision, NoMemory>
-    ensures { IfOk result (λ d. DecidesAt location_rules location.now request.now d) }
+    ensures decided { IfOk result (λ d. DecidesAt location_rules location.now request.now d) }
+    ensures wanting { IfErr result (λ _. Fits location.now request.now) }
 {
     if is_long(&location.settings, &request.body) {
         return Ok(refuse(Reason::LongBody));
@@ -256,9 +257,10 @@ fn at_location(alloc: Global, location: &Location, request: &Request) -> Result<
 /// What a request asks for by a configuration, or its refusal by the first of the routing rules that it breaks.
 ///
 /// docs/ROUTES.md has the rules. `NoMemory` comes only where there is no memory for the channel ids, the start, the
-/// opening or the message.
+/// opening or the message; a request that breaks one of the rules 1 to 4 is refused by it.
 pub fn rule(alloc: Global, conf: &Config, request: &Request) -> Result<Decision, NoMemory>
     ensures decided { IfOk result (λ decision. Decides conf.now request.now decision) }
+    ensures wanting { IfErr result (λ _. KeepsEarly conf.now request.now) }
 {
     let path = request.path.as_slice();
     if !begins_slash(path) {

@@ -5,7 +5,7 @@ use Rattle.nc_types.specs.declared.start.Start.TheVariants as starts
 use Rattle.nc_route.specs.Begin.{Given, given_by_date, IsStart}
 use Rattle.nc_route.specs.Begin.Given.{DateAndTags}
 use Rattle.nc_route.specs.declared.start.StartRefusal.{StartRefusal}
-use Rattle.nc_route.proofs.Starts.{told, no_date, is_time, tags_refused, tags_started}
+use Rattle.nc_route.proofs.Starts.{told, no_date, tags_refused, tags_started}
 use Rattle.nc_route.proofs.start.dated.Goals as goal
 use Rattle.nc_route.specs.Steps.{IsNoStart, unread}
 
@@ -13,10 +13,10 @@ pub returns-in_default-clause-err : goal.returns-in_default-clause-err
 returns-in_default-clause-err c = no_date c.args.n c.args.date.now (option_copied c.args.tags) (c.in_default.ensures.none)
 
 pub blank-requires-clause-time : goal.blank-requires-clause-time
-blank-requires-clause-time c = is_time c.args.date.now c.in-Some.time c.in-Some.ensures.some
+blank-requires-clause-time c = c.in-Some.ensures.within
 
 pub read_tags-requires : goal.read_tags-requires
-read_tags-requires c = is_time c.args.date.now c.in-Some.time c.in-Some.ensures.some
+read_tags-requires c = c.in-Some.ensures.within
 
 pub returns-in_err-read_tags-in-Some-tags-clause-err : goal.returns-in_err-read_tags-in-Some-tags-clause-err
 returns-in_err-read_tags-in-Some-tags-clause-err c =
