@@ -1,0 +1,16 @@
+pub mod Resting
+pub mod Closed
+pub mod Standing
+pub mod Numbers
+pub mod Order
+pub mod Hearing
+pub mod Guards
+pub mod Tally
+pub mod Holding
+pub mod Knowing
+pub mod Sound
+pub mod Readers
+pub mod Rules
+pub mod Idle
+pub mod Fences
+pub mod Keys
