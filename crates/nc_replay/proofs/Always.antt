@@ -5,10 +5,8 @@ use Rattle.nc_cli.specs.Words.{IsCommand, IsRead}
 use Rattle.nc_cli.specs.declared.Command.{Command}
 use Rattle.nc_cli.specs.declared.Command.TheVariants.{Replay, Check, Usage}
 use Rattle.nc_conf.specs.Answer.{NeverBoth}
-use Rattle.nc_journal.specs.declared.event.Event.{Event}
-use Rattle.nc_outside.specs.Pieces.{GivesAll, GivesMore}
+use Rattle.nc_outside.specs.Pieces.{GivesMore}
 use Rattle.nc_outside.proofs.Pieces.{gives_once, gives_all_once, never_goes_on}
-use Rattle.nc_replay.specs.declared.fault.Fault.{Fault}
 use Rattle.nc_replay.specs.Script.{IsMisconfigured, IsFaulty}
 use Rattle.nc_replay.specs.Sure.{IsNeverBoth, NeverFails}
 use Rattle.nc_replay.specs.Input.{longest_input, ReadsAll, ReadsUpTo, ReadsSome}

@@ -1,5 +1,5 @@
 -- The lines of a script are all made, or one of them breaks one rule first.
-use Rattle.std.proofs.Common.{◌≡◌, inl, inr, ℕ, suc, ◌+◌, Bool, true, false, cond, ◌==◌, ◌||◌, List, [], ◌∷◌, ◌++◌, map, find, length, refl, sym, ◌∙◌, subst, ap, arith, Option, Some, None, Ok}
+use Rattle.std.proofs.Common.{◌≡◌, inl, inr, ℕ, suc, ◌+◌, Bool, true, false, cond, ◌==◌, ◌||◌, List, [], ◌∷◌, ◌++◌, map, find, length, refl, sym, ◌∙◌, subst, ap, Option, Some, None, Ok}
 use Rattle.std.specs.List.{flat_map}
 use Rattle.std.proofs.lemmas.List.{append_cancel_left}
 use Rattle.nc_types.specs.Config.{ConfigAt}
@@ -29,7 +29,6 @@ use Rattle.nc_replay.specs.declared.fault.Fault.{Fault}
 use Rattle.nc_replay.specs.Script.{rule_line, text_of_lines, AreParts, IsConfigured}
 use Rattle.nc_replay.specs.Sure.{IsLineSure, NeverFails, HasOneFault}
 use Rattle.nc_replay.specs.LineEvents.{polls_of, look_of, leaves, expired, staying, surplus, sends, sends_from, sends_to, stored_of, order_of, found_id, found_sends, start_id, LineTells, IsNew, new_number, line_after, Leads}
-use Rattle.nc_replay.specs.Top.{Passes, Fails}
 use Rattle.nc_replay.proofs.OneFront.{has-one-front, lines-parted}
 
 -- ---- a line says one thing, or breaks one rule

@@ -1,5 +1,5 @@
 -- What is read of a source, and written to a sink. A source that doesn't tell what it has left goes on so.
-use Rattle.std.specs.Prelude.{◌≡◌, ◌⊎◌, ℕ, ◌+◌, ◌<◌, ◌≤◌, List, [], ◌++◌, length, Option, Some, None}
+use Rattle.std.specs.Prelude.{◌≡◌, ◌⊎◌, ℕ, ◌+◌, ◌≤◌, List, [], ◌++◌, length, Option, Some, None}
 use Rattle.nc_outside.specs.Fault.{HasRisen}
 use Rattle.nc_outside.specs.Pieces.{Gives, GivesAll}
 use Rattle.nc_replay.specs.declared.input.ReadFault.{ReadFault}
