@@ -1,8 +1,8 @@
 -- Each call leaves the subscribers of each spool in ascending order.
-use Rattle.std.proofs.Common.{◌≡◌, ℕ, zero, suc, ◌≤◌, ◌<◌, Bool, true, false, not, cond, List, [], ◌∷◌, refl, ap, subst, insert, filter, nat_lt, arith}
+use Rattle.std.proofs.Common.{◌≡◌, suc, ◌≤◌, Bool, true, false, not, cond, List, [], ◌∷◌, refl, insert, filter, nat_lt, arith}
 use Rattle.std.specs.List.{AllByRecursion}
 use Rattle.nc_spool_state.specs.declared.spool.Reader.{Reader}
-use Rattle.nc_spool_state.specs.Spool.{is_reader, without, place_above}
+use Rattle.nc_spool_state.specs.Spool.{is_reader, place_above}
 use Rattle.nc_spool_laws.specs.Standing.{AnyNews, AnyAnswer, KeepsAll}
 use Rattle.nc_spool_laws.specs.Readers.{IsUpTo, AreClimbing, Climbs}
 use Rattle.nc_spool_laws.proofs.Lists.{all-changed, all-insert}

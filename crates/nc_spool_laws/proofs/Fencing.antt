@@ -1,35 +1,28 @@
 -- Each fence is 0, the time of a message that was found, or that of an id that an owner answered.
-use Rattle.std.proofs.Common.{◌≡◌, ℕ, zero, suc, ◌+◌, Bool, true, false, cond, List, [], ◌∷◌, ◌++◌, refl, sym, subst, Option, Some, None, IfSome, find, set, nat_lt, max, ◌<◌, ◌≤◌, arith}
+use Rattle.std.proofs.Common.{◌≡◌, ℕ, ◌+◌, Bool, true, false, cond, List, [], ◌∷◌, refl, sym, subst, Option, Some, None, IfSome, nat_lt, max, ◌≤◌, arith}
 use Rattle.std.specs.Prelude.{fold, slice_index_or}
 use Rattle.std.specs.List.{AllByRecursion}
 use Rattle.std.proofs.Math.Nat.{max-eq_left, max-eq_right}
-use Rattle.nc_types.specs.Id.{Id}
-use Rattle.nc_spool_state.specs.declared.place.Quiet.{Quiet}
 use Rattle.nc_spool_state.specs.declared.place.Place.{Place}
 use Rattle.nc_spool_state.specs.declared.place.Place.TheVariants.{Asked, Nothing, Found}
-use Rattle.nc_spool_state.specs.declared.spool.Reader.{Reader}
 use Rattle.nc_spool_state.specs.declared.choice.Find.{Find}
-use Rattle.nc_spool_state.specs.declared.choice.Choice.{Choice}
-use Rattle.nc_spool_state.specs.declared.choice.Choice.TheVariants.{Wait, Fence, Send}
-use Rattle.nc_spool_state.specs.declared.hear.News.{News}
+use Rattle.nc_spool_state.specs.declared.choice.Choice.TheVariants.{Fence, Send}
 use Rattle.nc_spool_state.specs.declared.edge.Edge.{Edge}
 use Rattle.nc_spool_state.specs.declared.edge.Edge.TheVariants.{Awaited, Known}
 use Rattle.nc_spool_state.specs.Key.{KeyAt, name_at, id_at}
 use Rattle.nc_spool_state.specs.Spool.{SpoolAt, with_place}
-use Rattle.nc_spool_state.specs.Shelf.{without_first, place_before}
-use Rattle.nc_spool_state.specs.Starting.{StartingAt}
+use Rattle.nc_spool_state.specs.Shelf.{place_before}
 use Rattle.nc_spool_state.specs.Choice.{is_below, is_any_asked, is_any_below, find_at, sooner, soonest, choice, choice_by}
-use Rattle.nc_spool_state.specs.Edge.{is_behind, edge_time, later, newest_time}
+use Rattle.nc_spool_state.specs.Edge.{is_behind, later, newest_time}
 use Rattle.nc_spool.specs.declared.fact.Fact.{Fact}
 use Rattle.nc_spool.specs.declared.board.Board.{Board}
 use Rattle.nc_spool.specs.Board.{told, looked, asked_from, fresh_places}
 use Rattle.nc_spool.specs.Decide.{fenced, fence_look, fence_looks, fenced_places}
 use Rattle.nc_spool.specs.Newest.{fresh_edges, behind_edge, edges_from, asked_edge, edge_behind, edges_behind, behind_edges}
-use Rattle.nc_spool_laws.specs.Closed.{out, IsClosed}
+use Rattle.nc_spool_laws.specs.Closed.{IsClosed}
 use Rattle.nc_spool_laws.specs.Standing.{AnyKey, AnyFind}
 use Rattle.nc_spool_laws.specs.Fences.{FactFenced, PlaceFenced, SpoolFenced, EdgeFenced, StartFenced, BoardFenced, BesideFenced, ApartFenced, NewsFenced, AnswerFenced, LastFenced, KeepsFences}
 use Rattle.nc_spool_laws.proofs.Lists.{all-append, all-insert, all-without, all-found, all-set}
-use Rattle.nc_spool_laws.proofs.Same.{asked-shelf, asked-starts, fences-shelf, fences-starts, edges-shelf, edges-starts, behinds-shelf, behinds-starts}
 use Rattle.nc_spool_laws.proofs.Guarding.{is-below, not-below}
 use Rattle.nc_spool_laws.proofs.Walk.{all-kept}
 

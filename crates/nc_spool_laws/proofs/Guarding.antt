@@ -1,16 +1,14 @@
 -- A spool sends only what all its places let it send.
-use Rattle.std.proofs.Common.{◌≡◌, ◌⊎◌, inl, inr, ℕ, zero, suc, ◌+◌, ◌<◌, ◌≤◌, Bool, true, false, cond, ◌||◌, List, [], ◌∷◌, refl, sym, ap, subst, ◌∙◌, Option, Some, None, get_or, nat_lt, arith, ltb}
+use Rattle.std.proofs.Common.{◌≡◌, ◌⊎◌, inl, inr, ℕ, zero, suc, ◌+◌, ◌<◌, ◌≤◌, Bool, true, false, cond, ◌||◌, List, [], ◌∷◌, refl, sym, ap, subst, ◌∙◌, Option, Some, None, get_or, nat_lt, arith}
 use Rattle.std.specs.List.{AllByRecursion}
 use Rattle.std.proofs.lemmas.Bool.Decides.{nat_tests}
 use Rattle.nc_types.specs.Id.{Id}
-use Rattle.nc_spool_state.specs.declared.place.Quiet.{Quiet}
 use Rattle.nc_spool_state.specs.declared.place.Place.{Place}
 use Rattle.nc_spool_state.specs.declared.place.Place.TheVariants.{Asked, Nothing, Found}
 use Rattle.nc_spool_state.specs.declared.choice.Find.{Find}
-use Rattle.nc_spool_state.specs.declared.choice.Choice.{Choice}
-use Rattle.nc_spool_state.specs.declared.choice.Choice.TheVariants.{Wait, Fence, Send}
+use Rattle.nc_spool_state.specs.declared.choice.Choice.TheVariants.{Fence, Send}
 use Rattle.nc_spool_state.specs.Spool.{no_place}
-use Rattle.nc_spool_state.specs.Choice.{is_below, is_any_asked, is_any_below, find_at, sooner, soonest, choice, choice_by}
+use Rattle.nc_spool_state.specs.Choice.{is_any_asked, is_any_below, find_at, soonest, choice_by}
 use Rattle.nc_spool_laws.specs.Guards.{Lets, IsYounger, IsFind, IsGuarded, GuardsSends}
 
 pub not-below : (a b : ℕ) → nat_lt a b ≡ false → b ≤ a

@@ -1,7 +1,7 @@
 -- After a notice, and after a removal, no spool with the channel rests on an older answer.
-use Rattle.std.proofs.Common.{◌≡◌, ◌≢◌, ◌⊎◌, inl, inr, ℕ, zero, suc, ◌+◌, ◌<◌, Bool, true, false, cond, ltb, ◌||◌, List, [], ◌∷◌, refl, sym, ap, subst, ◌∙◌, Option, Some, None, find, length, set, get_or, nat_lt, arith}
+use Rattle.std.proofs.Common.{◌≡◌, ◌≢◌, ◌⊎◌, inl, inr, ℕ, zero, suc, ◌+◌, ◌<◌, Bool, true, false, cond, ltb, ◌||◌, List, [], ◌∷◌, refl, sym, ap, subst, ◌∙◌, Option, Some, None, length, set, get_or, arith}
 use Rattle.std.specs.Prelude.{fold, map}
-use Rattle.std.specs.List.{AllByRecursion, list_any, position, position_or_len, filter}
+use Rattle.std.specs.List.{AllByRecursion, list_any, position_or_len, filter}
 use Rattle.std.specs.Ordering.{is_eq}
 use Rattle.std.specs.declared.cmp.Ordering.{Ordering}
 use Rattle.std.specs.declared.cmp.Ordering.TheVariants.{Less, Equal, Greater}
@@ -9,18 +9,15 @@ use Rattle.std.proofs.lemmas.Grind.{get_or-set_at}
 use Rattle.std.proofs.lemmas.Cmp.{tied_itself}
 use Rattle.nc_types.specs.Id.{is_past}
 use Rattle.nc_types.specs.Channel.{name_eq}
-use Rattle.nc_spool_state.specs.declared.place.Quiet.{Quiet}
 use Rattle.nc_spool_state.specs.declared.place.Place.{Place}
 use Rattle.nc_spool_state.specs.declared.place.Place.TheVariants.{Asked, Nothing, Found}
-use Rattle.nc_spool_state.specs.declared.spool.Reader.{Reader}
 use Rattle.nc_spool_state.specs.declared.hear.News.{News}
 use Rattle.nc_spool.specs.declared.board.Board.{Board}
 use Rattle.nc_spool_state.specs.Key.{KeyAt, id_at, key_cmp, place_of}
-use Rattle.nc_spool_state.specs.Spool.{SpoolAt, no_place, is_of, has_channel, with_reader, place_at, with_place}
+use Rattle.nc_spool_state.specs.Spool.{SpoolAt, no_place, is_of, has_channel, place_at, with_place}
 use Rattle.nc_spool_state.specs.Shelf.{spool_of, without_first, place_before, key_of, keys_with}
-use Rattle.nc_spool_state.specs.Starting.{StartingAt}
-use Rattle.nc_spool.specs.Board.{asked_from, shelved, fresh_places, fresh_spool}
-use Rattle.nc_spool.specs.Decide.{fenced, fenced_places, fence_look, fence_looks, decided}
+use Rattle.nc_spool.specs.Board.{shelved, fresh_places}
+use Rattle.nc_spool.specs.Decide.{fenced, fenced_places, fence_look, decided}
 use Rattle.nc_spool_state.specs.Hear.{found_by, notice_says, gone_says}
 use Rattle.nc_spool.specs.Hear.{looked_again, heeded, noticed, noticed_at, noticed_by, noticed_in, noticed_place, emptied, emptied_at, emptied_by, emptied_in, emptied_place}
 use Rattle.nc_spool.specs.Depart.{member_gone, gone}

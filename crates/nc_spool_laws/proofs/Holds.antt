@@ -1,38 +1,30 @@
 -- The holds that are kept, and those that a call's facts name.
-use Rattle.std.proofs.Common.{◌≡◌, ◌⊎◌, inl, inr, ℕ, zero, suc, ◌+◌, ◌<◌, Bool, true, false, cond, not, ◌||◌, ◌&&◌, List, [], ◌∷◌, ◌++◌, refl, sym, ap, subst, ◌∙◌, Option, Some, None, find, take, drop, insert, get_or, nat_lt, ◌==◌, arith}
-use Rattle.std.specs.Prelude.{fold, slice_index_or}
+use Rattle.std.proofs.Common.{◌≡◌, ℕ, zero, suc, ◌+◌, Bool, true, false, cond, not, ◌||◌, ◌&&◌, List, [], ◌∷◌, refl, sym, ap, subst, ◌∙◌, Some, None, find, insert, get_or, nat_lt, ◌==◌, arith}
+use Rattle.std.specs.Prelude.{slice_index_or}
 use Rattle.std.specs.List.{AllByRecursion, list_any}
 use Rattle.std.proofs.lemmas.Bool.Decides.{nat_tests}
-use Rattle.nc_types.specs.Id.{Id}
-use Rattle.nc_types.specs.Cursor.{CursorAt}
 use Rattle.nc_spool.specs.declared.fact.Fact.{Fact}
-use Rattle.nc_spool.specs.declared.fact.Fact.TheVariants.{Out, Started, Sent, Ended}
-use Rattle.nc_spool_state.specs.declared.place.Quiet.{Quiet}
+use Rattle.nc_spool.specs.declared.fact.Fact.TheVariants.{Started, Ended}
 use Rattle.nc_spool_state.specs.declared.place.Place.{Place}
 use Rattle.nc_spool_state.specs.declared.place.Place.TheVariants.{Asked, Nothing, Found}
-use Rattle.nc_spool_state.specs.declared.spool.Reader.{Reader}
 use Rattle.nc_spool_state.specs.declared.choice.Find.{Find}
-use Rattle.nc_spool_state.specs.declared.choice.Choice.{Choice}
-use Rattle.nc_spool_state.specs.declared.choice.Choice.TheVariants.{Send}
-use Rattle.nc_spool_state.specs.declared.hear.News.{News}
 use Rattle.nc_spool_state.specs.declared.kept.Held.{Held}
 use Rattle.nc_spool_state.specs.declared.edge.Edge.{Edge}
 use Rattle.nc_spool.specs.declared.board.Board.{Board}
 use Rattle.nc_spool_state.specs.Key.{KeyAt, name_at, id_at}
 use Rattle.nc_spool_state.specs.Spool.{SpoolAt, no_place}
 use Rattle.nc_spool_state.specs.Shelf.{place_before, without_first}
-use Rattle.nc_spool_state.specs.Choice.{is_below, choice}
+use Rattle.nc_spool_state.specs.Choice.{is_below}
 use Rattle.nc_spool_state.specs.Edge.{is_behind, newest_time}
-use Rattle.nc_spool_state.specs.Starting.{StartingAt}
 use Rattle.nc_spool.specs.Board.{told, looked, asked_from}
 use Rattle.nc_spool.specs.Decide.{fence_look, fence_looks}
 use Rattle.nc_spool.specs.Newest.{edges_from, asked_edge, edge_behind, edges_behind}
 use Rattle.nc_spool_state.specs.Kept.{place_uses, spool_uses, is_used, is_grant, is_before, is_kept, is_idle, place_of_grant, with_hold}
 use Rattle.nc_spool_laws.specs.Closed.{IsClosed}
-use Rattle.nc_spool_laws.specs.Standing.{AnyLast, AnyKey, InAll, BesideAll, ApartAll, PlaceHeld, IsHeld, NewsHeld, AnswerHeld}
-use Rattle.nc_spool_laws.specs.Guards.{IsFind, IsGuarded}
+use Rattle.nc_spool_laws.specs.Standing.{AnyLast, AnyKey, PlaceHeld, IsHeld, NewsHeld, AnswerHeld}
+use Rattle.nc_spool_laws.specs.Guards.{IsFind}
 use Rattle.nc_spool_laws.specs.Holding.{FactHeld, BoardHeld, BesideHeld, ApartHeld, FindHeld, KeepsHeld, IsBefore, AreRising, HoldsRule}
-use Rattle.nc_spool_laws.proofs.Lists.{all-insert, all-without, all-found, all-append, all-changed, found-passes}
+use Rattle.nc_spool_laws.proofs.Lists.{all-insert, all-without, all-found, all-append, all-changed}
 use Rattle.nc_spool_laws.proofs.Same.{asked-shelf, fences-shelf, edges-shelf, behinds-shelf}
 use Rattle.nc_spool_laws.proofs.Walk.{all-kept}
 use Rattle.nc_spool_laws.proofs.Local.{held}

@@ -1,12 +1,11 @@
 -- The least hold without a use is released.
-use Rattle.std.proofs.Common.{◌≡◌, ◌⊎◌, inl, inr, ℕ, Bool, true, false, not, cond, List, [], ◌∷◌, refl, sym, ap, subst, ◌∙◌, Option, Some, None, find}
+use Rattle.std.proofs.Common.{◌≡◌, ◌⊎◌, inl, inr, Bool, true, false, not, cond, List, [], ◌∷◌, refl, ap, subst, ◌∙◌, Some, None, find}
 use Rattle.std.specs.List.{AllByRecursion}
 use Rattle.nc_spool_state.specs.declared.kept.Held.{Held}
 use Rattle.nc_spool_state.specs.Spool.{SpoolAt}
 use Rattle.nc_spool_state.specs.Kept.{is_used, is_idle}
-use Rattle.nc_spool.specs.Calls.{SpoolsAt}
 use Rattle.nc_spool_laws.specs.Holding.{IsBefore, AreRising}
-use Rattle.nc_spool_laws.specs.Idle.{AllUsed, IsLeastIdle, IdleRule}
+use Rattle.nc_spool_laws.specs.Idle.{IdleRule}
 use Rattle.nc_spool_laws.proofs.Lists.{all-changed}
 use Rattle.nc_spool_laws.proofs.Holds.{holds-rule}
 

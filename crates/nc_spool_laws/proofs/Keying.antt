@@ -1,16 +1,14 @@
 -- Each call leaves distinct names in each key, and a tag for each of them.
-use Rattle.std.proofs.Common.{◌≡◌, ℕ, zero, suc, ◌+◌, Bool, true, false, cond, List, [], ◌∷◌, refl, sym, subst, ap, ◌∙◌, Option, Some, None, IfSome, find, length, set, length-set, map, ◌==◌}
+use Rattle.std.proofs.Common.{◌≡◌, ℕ, suc, ◌+◌, Bool, true, false, cond, List, [], ◌∷◌, refl, sym, subst, ap, ◌∙◌, Option, Some, IfSome, find, length, length-set, ◌==◌}
 use Rattle.std.specs.Prelude.{slice_index_or}
 use Rattle.std.specs.List.{AllByRecursion}
 use Rattle.std.proofs.lemmas.List.{length-replicate, length-map}
-use Rattle.nc_types.specs.Cursor.{CursorAt, tags_at, blank_tags, moved}
-use Rattle.nc_types.specs.Id.{Id}
+use Rattle.nc_types.specs.Cursor.{CursorAt, tags_at, blank_tags}
 use Rattle.nc_spool_state.specs.declared.choice.Find.{Find}
 use Rattle.nc_spool_state.specs.declared.edge.Edge.{Edge}
 use Rattle.nc_spool_state.specs.declared.edge.Edge.TheVariants.{Known}
 use Rattle.nc_spool.specs.declared.board.Board.{Board}
 use Rattle.nc_spool_state.specs.Key.{KeyAt}
-use Rattle.nc_spool_state.specs.Spool.{SpoolAt}
 use Rattle.nc_spool_state.specs.Shelf.{place_before}
 use Rattle.nc_spool_state.specs.Edge.{edge_tag, newest_time, newest_cursor}
 use Rattle.nc_spool_state.specs.Starting.{StartingAt}

@@ -1,14 +1,12 @@
 -- Each call keeps what the places know.
-use Rattle.std.proofs.Common.{◌≡◌, ◌≢◌, ℕ, zero, suc, ◌+◌, ◌<◌, Bool, true, false, cond, not, ◌&&◌, ltb, List, [], ◌∷◌, ◌++◌, refl, sym, ap, subst, ◌∙◌, Option, Some, None, find, length, set, get_or, length-set, nat_lt, nat_eq, ◌==◌, arith}
+use Rattle.std.proofs.Common.{◌≡◌, ◌≢◌, ℕ, zero, suc, ◌+◌, ◌<◌, Bool, true, false, cond, not, ◌&&◌, ltb, List, [], ◌∷◌, ◌++◌, refl, sym, ap, subst, ◌∙◌, Option, Some, None, length, set, get_or, length-set, nat_lt, nat_eq, ◌==◌, arith}
 use Rattle.std.specs.Prelude.{slice_index_or}
 use Rattle.std.specs.List.{AllByRecursion, position, position_or_len}
-use Rattle.std.specs.Cmp.Lexicographic.{pointwise}
 use Rattle.std.proofs.lemmas.Bool.Decides.{nat_tests}
 use Rattle.std.proofs.lemmas.Grind.{get_or-set_at}
 use Rattle.std.proofs.lemmas.List.{get_or-set_other}
 use Rattle.nc_types.specs.Id.{Id, is_past}
 use Rattle.nc_types.specs.Channel.{name_eq}
-use Rattle.nc_types.specs.Cursor.{CursorAt}
 use Rattle.nc_spool.specs.declared.fact.Fact.{Fact}
 use Rattle.nc_spool_state.specs.declared.place.Quiet.{Quiet}
 use Rattle.nc_spool_state.specs.declared.place.Place.{Place}
@@ -23,10 +21,9 @@ use Rattle.nc_spool_state.specs.Spool.{SpoolAt, no_place, place_at, with_place, 
 use Rattle.nc_spool_state.specs.Shelf.{place_before}
 use Rattle.nc_spool_state.specs.Choice.{is_below}
 use Rattle.nc_spool_state.specs.Edge.{is_behind, newest_time}
-use Rattle.nc_spool.specs.Board.{told, looked, asked_from, fresh_places, fresh_spool}
+use Rattle.nc_spool.specs.Board.{looked, asked_from, fresh_places, fresh_spool}
 use Rattle.nc_spool.specs.Decide.{fenced, fenced_places, fence_look, fence_looks}
 use Rattle.nc_spool_state.specs.Hear.{found_by}
-use Rattle.nc_spool.specs.Hear.{looked_again}
 use Rattle.nc_spool.specs.Newest.{edges_from, asked_edge, edge_behind, edges_behind}
 use Rattle.nc_spool_laws.specs.Closed.{RestsOn, IsNothing, IsClosed}
 use Rattle.nc_spool_laws.specs.Standing.{AnyLast, AnyKey, AnyFind}

@@ -1,5 +1,5 @@
 -- What holds of all spools, through changes of their list.
-use Rattle.std.proofs.Common.{◌≡◌, ℕ, zero, suc, Bool, true, false, cond, List, [], ◌∷◌, ◌++◌, refl, sym, ap, take, drop, set, Some, None, find, subst, length, ◌<◌, arith, length-append, ◌||◌, not, ◌+◌}
+use Rattle.std.proofs.Common.{◌≡◌, ℕ, zero, suc, Bool, true, false, cond, List, [], ◌∷◌, ◌++◌, refl, ap, take, drop, set, Some, None, find, subst, length, ◌<◌, arith, length-append, ◌||◌, not, ◌+◌}
 use Rattle.std.specs.List.{AllByRecursion, insert, list_any, position_or_len}
 use Rattle.nc_spool_state.specs.Shelf.{without_first}
 

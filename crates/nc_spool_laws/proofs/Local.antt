@@ -1,5 +1,5 @@
 -- What holds of each spool by itself is kept by each call.
-use Rattle.std.proofs.Common.{◌≡◌, ℕ, zero, suc, ◌+◌, ◌<◌, Bool, true, false, cond, List, [], ◌∷◌, refl, sym, subst, Option, Some, None, find, length, set, arith, insert, nat_lt, ap, ◌∙◌, length-set}
+use Rattle.std.proofs.Common.{◌≡◌, ℕ, zero, suc, ◌+◌, ◌<◌, Bool, true, false, cond, List, [], ◌∷◌, refl, sym, subst, Option, Some, None, length, set, nat_lt, ap, ◌∙◌, length-set}
 use Rattle.std.specs.List.{AllByRecursion}
 use Rattle.nc_spool_state.specs.declared.place.Quiet.{Quiet}
 use Rattle.nc_spool_state.specs.declared.place.Place.{Place}
@@ -10,12 +10,11 @@ use Rattle.nc_spool_state.specs.declared.kept.Held.{Held}
 use Rattle.nc_spool.specs.declared.board.Board.{Board}
 use Rattle.nc_spool_state.specs.Key.{KeyAt}
 use Rattle.nc_spool_state.specs.Spool.{SpoolAt, with_reader, without_reader, with_place, place_above}
-use Rattle.nc_spool_state.specs.Shelf.{place_before, without_first}
+use Rattle.nc_spool_state.specs.Shelf.{place_before}
 use Rattle.nc_spool_state.specs.Edge.{newest_time}
-use Rattle.nc_spool.specs.Board.{asked_from, fresh_spool, fresh_places}
-use Rattle.nc_spool.specs.Decide.{fenced, fenced_places, fence_look, fence_looks}
+use Rattle.nc_spool.specs.Board.{fresh_spool, fresh_places}
+use Rattle.nc_spool.specs.Decide.{fenced, fenced_places, fence_look}
 use Rattle.nc_spool_state.specs.Hear.{found_by}
-use Rattle.nc_spool.specs.Hear.{looked_again}
 use Rattle.nc_spool_laws.specs.Closed.{IsClosed}
 use Rattle.nc_spool_laws.specs.Standing.{AnyLast, AnyKey, AnyFind, InAll, BesideAll, ApartAll, KeepsAll, IsAttended, IsWhole, AnyNews, AnyAnswer, PlaceHeld, IsHeld, NewsHeld, AnswerHeld}
 use Rattle.nc_spool_laws.proofs.Lists.{all-insert, all-without, all-found, length-insert_one}

@@ -1,5 +1,5 @@
 -- Each call keeps the awaited numbers apart and below the next one.
-use Rattle.std.proofs.Common.{◌≡◌, ◌⊎◌, inl, inr, ℕ, zero, suc, ◌+◌, ◌<◌, ◌≤◌, Bool, true, false, cond, List, [], ◌∷◌, ◌++◌, refl, sym, ap, subst, ◌∙◌, Option, Some, None, find, set, get_or, nat_lt, arith, ◌==◌, eqb}
+use Rattle.std.proofs.Common.{◌≡◌, ℕ, ◌+◌, ◌<◌, ◌≤◌, Bool, true, false, cond, List, [], ◌∷◌, refl, ap, ◌∙◌, Some, None, find, set, get_or, nat_lt, arith, ◌==◌}
 use Rattle.std.specs.Prelude.{slice_index_or}
 use Rattle.std.proofs.lemmas.Bool.Decides.{nat_tests}
 use Rattle.nc_types.specs.Id.{Id}
@@ -8,21 +8,19 @@ use Rattle.nc_spool_state.specs.declared.place.Quiet.{Quiet}
 use Rattle.nc_spool_state.specs.declared.place.Place.{Place}
 use Rattle.nc_spool_state.specs.declared.place.Place.TheVariants.{Asked, Nothing, Found}
 use Rattle.nc_spool_state.specs.declared.spool.Reader.{Reader}
-use Rattle.nc_spool_state.specs.declared.hear.News.{News}
 use Rattle.nc_spool_state.specs.declared.edge.Edge.{Edge}
 use Rattle.nc_spool_state.specs.declared.edge.Edge.TheVariants.{Awaited, Known}
 use Rattle.nc_spool.specs.declared.board.Board.{Board}
 use Rattle.nc_spool_state.specs.Key.{KeyAt, name_at, id_at}
 use Rattle.nc_spool_state.specs.Spool.{SpoolAt, no_place, place_at, with_place, with_reader}
-use Rattle.nc_spool_state.specs.Shelf.{place_before, without_first}
+use Rattle.nc_spool_state.specs.Shelf.{place_before}
 use Rattle.nc_spool_state.specs.Edge.{is_behind, newest_cursor}
 use Rattle.nc_spool_state.specs.Starting.{StartingAt, with_edge}
-use Rattle.nc_spool_state.specs.Choice.{is_below}
 use Rattle.nc_spool.specs.Board.{looked, asked_from, fresh_places, fresh_spool, shelved}
-use Rattle.nc_spool.specs.Decide.{fenced, fenced_places, fence_look, fence_looks}
+use Rattle.nc_spool.specs.Decide.{fenced_places, fence_looks}
 use Rattle.nc_spool_state.specs.Hear.{found_by}
 use Rattle.nc_spool.specs.Hear.{looked_again}
-use Rattle.nc_spool.specs.Newest.{fresh_edges, edges_from, asked_edge, behind_edge, edge_behind, behind_edges, edges_behind, parked}
+use Rattle.nc_spool.specs.Newest.{fresh_edges, edges_from, asked_edge, behind_edges, edges_behind, parked}
 use Rattle.nc_spool_laws.specs.Closed.{IsClosed, out, out_start}
 use Rattle.nc_spool_laws.specs.Standing.{AnyLast, AnyKey, AnyNews, AnyAnswer, AnyFind}
 use Rattle.nc_spool_laws.specs.Numbers.{one, total, look_at, edge_at, looks_of, edges_of, awaited, IsOnce, AreApart, SpoolApart, StartApart, KeepsApart}

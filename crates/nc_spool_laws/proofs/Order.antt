@@ -1,24 +1,16 @@
 -- Each call keeps the spools in ascending order.
-use Rattle.std.proofs.Common.{◌≡◌, ◌≢◌, ℕ, zero, suc, Bool, true, false, cond, List, [], ◌∷◌, ◌++◌, refl, sym, ap, subst, ◌∙◌, Option, Some, None, find, take, drop, insert}
+use Rattle.std.proofs.Common.{◌≡◌, ◌≢◌, suc, Bool, true, false, cond, List, [], ◌∷◌, refl, sym, ap, subst, ◌∙◌, Some, None, find, insert}
 use Rattle.std.specs.Cmp.{IsTotalOrder}
 use Rattle.std.specs.List.{AllByRecursion}
-use Rattle.std.specs.Ordering.{is_lt, is_eq, ordering_reverse, nat_cmp, int_cmp}
+use Rattle.std.specs.Ordering.{is_lt, is_eq, ordering_reverse}
 use Rattle.std.specs.declared.cmp.Ordering.{Ordering}
 use Rattle.std.specs.declared.cmp.Ordering.TheVariants.{Less, Equal, Greater}
-use Rattle.std.proofs.lemmas.Cmp.{then_total, on_total, lists_total, nat_list_cmp_total, nat_cmp_total, int_cmp_total, tied_back}
+use Rattle.std.proofs.lemmas.Cmp.{then_total, on_total, lists_total, nat_list_cmp_total, nat_cmp_total, int_cmp_total}
 use Rattle.nc_types.specs.Cursor.{CursorAt}
-use Rattle.nc_spool_state.specs.declared.place.Quiet.{Quiet}
-use Rattle.nc_spool_state.specs.declared.hear.News.{News}
-use Rattle.nc_spool_state.specs.declared.spool.Reader.{Reader}
-use Rattle.nc_spool.specs.declared.board.Board.{Board}
 use Rattle.nc_spool_state.specs.Key.{KeyAt, cursor_cmp, key_cmp}
 use Rattle.nc_spool_state.specs.Spool.{SpoolAt, is_of}
 use Rattle.nc_spool_state.specs.Shelf.{place_before, with_spool, without_first}
-use Rattle.nc_spool_state.specs.Starting.{StartingAt}
 use Rattle.nc_spool_state.specs.Edge.{newest_time}
-use Rattle.nc_spool.specs.Board.{asked_from}
-use Rattle.nc_spool.specs.Decide.{fence_looks}
-use Rattle.nc_spool.specs.Newest.{edges_from, edges_behind}
 use Rattle.nc_spool_laws.specs.Closed.{IsClosed}
 use Rattle.nc_spool_laws.specs.Standing.{AnyLast, AnyKey, AnyNews, AnyAnswer, AnyFind}
 use Rattle.nc_spool_laws.specs.Order.{IsBelow, IsOther, AreAscending, Ascends, AscendsBeside, AscendsApart, KeepsOrder}

@@ -1,20 +1,18 @@
 -- The rules of entering and of sending.
-use Rattle.std.proofs.Common.{◌≡◌, ℕ, ◌+◌, Bool, true, false, cond, List, [], ◌∷◌, ◌++◌, refl, sym, ap, ◌∙◌, subst, Option, None, Some}
+use Rattle.std.proofs.Common.{◌≡◌, ℕ, ◌+◌, Bool, true, false, cond, List, [], ◌∷◌, ◌++◌, refl, sym, ap, ◌∙◌, Option, None, Some}
 use Rattle.std.specs.Prelude.{fold, map}
 use Rattle.std.proofs.lemmas.List.{append-nil, append_assoc}
-use Rattle.nc_spool_state.specs.declared.choice.Find.{Find}
 use Rattle.nc_spool_state.specs.declared.spool.Reader.{Reader}
 use Rattle.nc_spool_state.specs.Key.{KeyAt, id_at}
 use Rattle.nc_spool_state.specs.Spool.{SpoolAt, with_reader}
-use Rattle.nc_spool_state.specs.Shelf.{spool_of, others, with_spool}
-use Rattle.nc_spool.specs.declared.fact.Sending.{Sending}
+use Rattle.nc_spool_state.specs.Shelf.{spool_of, others}
 use Rattle.nc_spool.specs.declared.fact.Fact.{Fact}
 use Rattle.nc_spool.specs.declared.fact.Fact.TheVariants.{Out, Started, Sent, Ended}
 use Rattle.nc_spool.specs.declared.decide.Delivery.{Delivery}
 use Rattle.nc_spool.specs.declared.board.Board.{Board}
 use Rattle.nc_spool.specs.Board.{told, looked, asked_from, shelved, standing, opened, parted, ended, entered}
-use Rattle.nc_spool.specs.Decide.{delivery, sending, moved_on, sent_one, sent}
-use Rattle.nc_spool_laws.specs.Rules.{sends_of, EntersQuietly, SendingRule, EnteringRule}
+use Rattle.nc_spool.specs.Decide.{delivery, sending, sent_one}
+use Rattle.nc_spool_laws.specs.Rules.{sends_of, SendingRule, EnteringRule}
 
 pub entering : EnteringRule
 entering key r s b was = record {

@@ -1,5 +1,5 @@
 -- Keys that are ordered as equal are one key.
-use Rattle.std.proofs.Common.{◌≡◌, ℕ, ℤ, Bool, true, List, [], ◌∷◌, refl, arith}
+use Rattle.std.proofs.Common.{◌≡◌, ℕ, ℤ, true, List, [], ◌∷◌, refl, arith}
 use Rattle.std.specs.Ordering.{nat_cmp, int_cmp, ordering_then, is_eq}
 use Rattle.std.specs.declared.cmp.Ordering.{Ordering}
 use Rattle.std.specs.declared.cmp.Ordering.TheVariants.{Less, Equal, Greater}
@@ -7,7 +7,7 @@ use Rattle.std.specs.Cmp.Lexicographic.{slice_cmp}
 use Rattle.std.proofs.lemmas.Bool.Decides.{nat_tests}
 use Rattle.std.proofs.lemmas.Int.{ints}
 use Rattle.nc_types.specs.Cursor.{CursorAt}
-use Rattle.nc_spool_state.specs.Key.{KeyAt, key_cmp, cursor_cmp}
+use Rattle.nc_spool_state.specs.Key.{key_cmp, cursor_cmp}
 use Rattle.nc_spool_laws.specs.Order.{EqualKeysAreOne}
 
 then_first : (a b : Ordering) → ordering_then a b ≡ Equal → a ≡ Equal

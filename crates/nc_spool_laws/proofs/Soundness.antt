@@ -1,5 +1,5 @@
 -- Each call keeps the spools of a worker sound.
-use Rattle.std.proofs.Common.{◌≡◌, ℕ, ◌+◌, ◌≤◌, Bool, true, false, List, [], refl, sym, ap, subst, ◌∙◌, Option, Some, None, IfSome, find, arith, ◌==◌}
+use Rattle.std.proofs.Common.{◌≡◌, ℕ, ◌+◌, ◌≤◌, Bool, true, false, List, [], refl, sym, ap, subst, Option, Some, None, IfSome, arith, ◌==◌}
 use Rattle.std.specs.List.{AllByRecursion}
 use Rattle.std.specs.Option.{option_map}
 use Rattle.std.proofs.lemmas.Bool.Decides.{nat_tests}
@@ -7,20 +7,18 @@ use Rattle.nc_types.specs.Id.{Id}
 use Rattle.nc_types.specs.declared.start.Start.{Start}
 use Rattle.nc_spool_state.specs.declared.place.Quiet.{Quiet}
 use Rattle.nc_spool_state.specs.declared.spool.Reader.{Reader}
-use Rattle.nc_spool_state.specs.declared.hear.News.{News}
 use Rattle.nc_spool_state.specs.declared.kept.Held.{Held}
 use Rattle.nc_spool.specs.declared.spools.Found.{Found}
 use Rattle.nc_spool_state.specs.declared.edge.Edge.TheVariants.{Known}
 use Rattle.nc_spool.specs.declared.board.Board.{Board}
 use Rattle.nc_spool_state.specs.Shelf.{without_first}
-use Rattle.nc_spool_state.specs.Kept.{is_kept, is_idle, with_hold}
-use Rattle.nc_spool.specs.Calls.{SpoolsAt, new_spools, board_of, after, news_of, with_found, arrive_board, arrive_after, answer_board, answer_facts, answer_after, edge_board, edge_after, notice_board, notice_facts, notice_after, gone_board, gone_after, depart_board, depart_after, without_idle}
-use Rattle.nc_spool_laws.specs.Closed.{IsKept}
+use Rattle.nc_spool_state.specs.Kept.{is_idle, with_hold}
+use Rattle.nc_spool.specs.Calls.{SpoolsAt, board_of, after, news_of, with_found, arrive_board, arrive_after, answer_board, answer_after, edge_board, edge_after, notice_board, notice_after, gone_board, gone_after, depart_board, depart_after, without_idle}
 use Rattle.nc_spool_laws.specs.Resting.{AllRest}
-use Rattle.nc_spool_laws.specs.Order.{AreAscending, Ascends, AscendsBeside, AscendsApart}
-use Rattle.nc_spool_laws.specs.Standing.{AnyNews, AnyAnswer, AnyFind, InAll, BesideAll, ApartAll, IsWhole, IsAttended, IsHeld, NewsHeld, AnswerHeld}
+use Rattle.nc_spool_laws.specs.Order.{AreAscending}
+use Rattle.nc_spool_laws.specs.Standing.{IsWhole, IsAttended, IsHeld, AnswerHeld}
 use Rattle.nc_spool_laws.specs.Numbers.{one, AreApart}
-use Rattle.nc_spool_laws.specs.Tally.{reader_at, stands, ends, tally}
+use Rattle.nc_spool_laws.specs.Tally.{stands, ends, tally}
 use Rattle.nc_spool_laws.specs.Holding.{FactHeld, BoardHeld, AreRising}
 use Rattle.nc_spool_laws.specs.Sound.{IsSound, IsNew, KeepsSound}
 use Rattle.nc_spool_laws.proofs.Waiting.{all-restful}

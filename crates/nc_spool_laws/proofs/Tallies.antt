@@ -1,6 +1,6 @@
 -- Who comes stands from then on, and who stands no longer was ended.
-use Rattle.std.proofs.Common.{◌≡◌, ℕ, zero, suc, ◌+◌, ◌≤◌, Bool, true, false, cond, not, ◌||◌, List, [], ◌∷◌, refl, sym, ap, subst, ◌∙◌, Option, Some, None, find, length, arith, ◌==◌, eqb}
-use Rattle.std.specs.Prelude.{fold, filter, slice_index_or}
+use Rattle.std.proofs.Common.{◌≡◌, ℕ, ◌+◌, ◌≤◌, Bool, true, false, cond, not, ◌||◌, List, [], ◌∷◌, refl, sym, ap, subst, ◌∙◌, Option, Some, None, find, length, arith, ◌==◌}
+use Rattle.std.specs.Prelude.{fold, slice_index_or}
 use Rattle.std.specs.List.{list_any}
 use Rattle.std.proofs.lemmas.Bool.Decides.{nat_tests}
 use Rattle.nc_types.specs.Id.{Id, is_past}
@@ -8,12 +8,11 @@ use Rattle.nc_types.specs.Cursor.{CursorAt}
 use Rattle.nc_types.specs.declared.start.Start.{Start}
 use Rattle.nc_types.specs.declared.start.Start.TheVariants as starts
 use Rattle.nc_spool.specs.declared.fact.Fact.{Fact}
-use Rattle.nc_spool.specs.declared.fact.Fact.TheVariants.{Out, Started, Sent, Ended}
+use Rattle.nc_spool.specs.declared.fact.Fact.TheVariants.{Started, Sent, Ended}
 use Rattle.nc_spool_state.specs.declared.place.Quiet.{Quiet}
 use Rattle.nc_spool_state.specs.declared.place.Place.{Place}
-use Rattle.nc_spool_state.specs.declared.place.Place.TheVariants.{Asked, Nothing, Found}
+use Rattle.nc_spool_state.specs.declared.place.Place.TheVariants.{Asked}
 use Rattle.nc_spool_state.specs.declared.spool.Reader.{Reader}
-use Rattle.nc_spool_state.specs.declared.choice.Find.{Find}
 use Rattle.nc_spool_state.specs.declared.choice.Choice.{Choice}
 use Rattle.nc_spool_state.specs.declared.choice.Choice.TheVariants.{Wait, Fence, Send}
 use Rattle.nc_spool.specs.declared.decide.Delivery.{Delivery}
@@ -25,20 +24,20 @@ use Rattle.nc_spool.specs.declared.board.Board.{Board}
 use Rattle.nc_spool_state.specs.Key.{KeyAt, name_at, id_at, place_of}
 use Rattle.nc_spool_state.specs.Place.{place_awaiting}
 use Rattle.nc_spool_state.specs.Spool.{SpoolAt, is_of, is_reader, awaits, has_reader, without, with_reader, without_reader, place_above, place_at, with_place}
-use Rattle.nc_spool_state.specs.Shelf.{spool_of, others, without_first, place_before, with_spool, with_read_spool, keys_with}
+use Rattle.nc_spool_state.specs.Shelf.{spool_of, place_before, with_spool, with_read_spool, keys_with}
 use Rattle.nc_spool_state.specs.Choice.{is_below, choice}
 use Rattle.nc_spool_state.specs.Edge.{is_behind, is_any_awaited, is_any_behind, newest_cursor, edge_awaiting}
 use Rattle.nc_spool_state.specs.Starting.{StartingAt, with_edge, start_awaits, starts_with}
 use Rattle.nc_spool.specs.Board.{told, looked, shelved, asked_from, fresh_spool, standing, opened, entered, parted, ended}
 use Rattle.nc_spool.specs.Decide.{fence_look, fence_looks, fenced_places, delivery, sending, sent_one, decided, decided_by}
-use Rattle.nc_spool_state.specs.Hear.{found_by, learned, notice_says, gone_says}
-use Rattle.nc_spool.specs.Hear.{looked_again, heeded, noticed, noticed_at, noticed_by, noticed_in, noticed_place, emptied, emptied_at, emptied_by, emptied_in, emptied_place, answered, answered_by, answered_in, answered_at}
+use Rattle.nc_spool_state.specs.Hear.{learned, notice_says, gone_says}
+use Rattle.nc_spool.specs.Hear.{looked_again, heeded, noticed_at, noticed_by, noticed_in, noticed_place, emptied_at, emptied_by, emptied_in, emptied_place, answered, answered_by, answered_in, answered_at}
 use Rattle.nc_spool.specs.Depart.{other_names, names_with, names_by, start_names, left, left_by, departed, departed_by, member_gone, member_gone_by, gone}
 use Rattle.nc_spool.specs.Arrive.{oldest_cursor, joined, started_by, arrived}
 use Rattle.nc_spool.specs.Newest.{begun, parked, fresh_edges, behind_edges, edges_from, asked_edge, edge_behind, edges_behind, second_by, answered_all, went_on, edge_heard, edge_heard_at, edge_answered, edge_answered_by}
 use Rattle.nc_spool_laws.specs.Closed.{out, out_start}
 use Rattle.nc_spool_laws.specs.Numbers.{one, total}
-use Rattle.nc_spool_laws.specs.Tally.{reader_at, readers_of, start_at, stands, end_at, ends, tally, StandOnce, KeepsTally}
+use Rattle.nc_spool_laws.specs.Tally.{reader_at, readers_of, start_at, stands, end_at, ends, tally, KeepsTally}
 use Rattle.nc_spool_laws.proofs.Lists.{none-without, found-passes}
 use Rattle.nc_spool_laws.proofs.Totals.{total-insert, total-push, total-without}
 use Rattle.nc_spool_laws.proofs.Same.{asked-shelf, asked-starts, parted-shelf, parted-starts, joined-shelf, joined-starts, fences-shelf, fences-starts, edges-shelf, edges-starts, behinds-shelf, behinds-starts}

@@ -1,7 +1,7 @@
 -- Sums over lists, through changes of the list.
-use Rattle.std.proofs.Common.{◌≡◌, ℕ, zero, suc, ◌+◌, ◌≤◌, Bool, true, false, cond, List, [], ◌∷◌, ◌++◌, refl, sym, ap, ◌∙◌, take, drop, insert, set, get_or, Some, None, find, arith}
+use Rattle.std.proofs.Common.{◌≡◌, ℕ, zero, suc, ◌+◌, ◌≤◌, Bool, true, false, cond, List, [], ◌∷◌, ◌++◌, refl, sym, ap, take, drop, insert, set, get_or, Some, find, arith}
 use Rattle.nc_spool_state.specs.Shelf.{without_first}
-use Rattle.nc_spool_laws.specs.Numbers.{one, total}
+use Rattle.nc_spool_laws.specs.Numbers.{total}
 
 module _ {X : Type 0} (f : X → ℕ) where
   pub total-append : (xs ys : List X) → total f (xs ++ ys) ≡ total f xs + total f ys

@@ -1,11 +1,9 @@
 -- Each call leaves no found place without an asked one.
-use Rattle.std.proofs.Common.{◌≡◌, ◌⊎◌, inl, inr, ℕ, zero, suc, ◌+◌, Bool, true, false, cond, ◌||◌, List, [], ◌∷◌, refl, sym, ap, subst, ◌∙◌, Option, Some, None, find, set, nat_lt, length, ◌==◌}
+use Rattle.std.proofs.Common.{◌≡◌, ◌⊎◌, inl, inr, ℕ, zero, suc, ◌+◌, Bool, true, false, cond, ◌||◌, List, [], ◌∷◌, refl, sym, ap, subst, Option, Some, None, find, set, nat_lt, length, ◌==◌}
 use Rattle.std.specs.Prelude.{fold}
-use Rattle.std.specs.List.{AllByRecursion, list_any}
-use Rattle.nc_types.specs.Id.{Id, is_past}
+use Rattle.nc_types.specs.Id.{is_past}
 use Rattle.nc_types.specs.declared.start.Start.{Start}
 use Rattle.nc_types.specs.declared.start.Start.TheVariants as starts
-use Rattle.nc_spool.specs.declared.fact.Fact.{Fact}
 use Rattle.nc_spool.specs.declared.fact.Fact.TheVariants.{Started, Sent, Ended}
 use Rattle.nc_spool_state.specs.declared.place.Quiet.{Quiet}
 use Rattle.nc_spool_state.specs.declared.place.Place.{Place}
@@ -16,16 +14,14 @@ use Rattle.nc_spool_state.specs.declared.choice.Choice.{Choice}
 use Rattle.nc_spool_state.specs.declared.choice.Choice.TheVariants.{Wait, Fence, Send}
 use Rattle.nc_spool.specs.declared.decide.Delivery.{Delivery}
 use Rattle.nc_spool_state.specs.declared.hear.News.{News}
-use Rattle.nc_spool_state.specs.declared.hear.Heard.{Heard}
-use Rattle.nc_spool_state.specs.declared.hear.Heard.TheVariants.{Stays, Forgets, Looks, Finds}
 use Rattle.nc_spool.specs.declared.board.Board.{Board}
 use Rattle.nc_spool_state.specs.Key.{KeyAt, id_at, place_of}
 use Rattle.nc_spool_state.specs.Place.{is_asked, place_awaiting}
 use Rattle.nc_spool_state.specs.Spool.{SpoolAt, is_of, awaits, has_reader, with_reader, without_reader, place_at, with_place}
-use Rattle.nc_spool_state.specs.Shelf.{spool_of, others, without_first, place_before, with_spool, with_read_spool, keys_with}
-use Rattle.nc_spool_state.specs.Choice.{is_below, is_any_asked, is_any_below, find_at, sooner, soonest, choice, choice_by}
+use Rattle.nc_spool_state.specs.Shelf.{spool_of, others, without_first, place_before, with_spool, keys_with}
+use Rattle.nc_spool_state.specs.Choice.{is_any_asked, is_any_below, find_at, sooner, soonest, choice, choice_by}
 use Rattle.nc_spool.specs.Board.{told, shelved, asked_from, fresh_places, fresh_spool, standing, opened, entered, ended}
-use Rattle.nc_spool.specs.Decide.{fenced, fenced_places, fence_look, fence_looks, delivery, moved_on, sent_one, sent, decided, decided_by, sending}
+use Rattle.nc_spool.specs.Decide.{fenced_places, fence_look, fence_looks, delivery, sent_one, decided, decided_by, sending}
 use Rattle.nc_spool_state.specs.Hear.{found_by, learned, notice_says, gone_says}
 use Rattle.nc_spool.specs.Hear.{looked_again, heeded, noticed, noticed_at, noticed_by, noticed_in, noticed_place, emptied, emptied_at, emptied_by, emptied_in, emptied_place, answered, answered_by, answered_in, answered_at}
 use Rattle.nc_types.specs.Cursor.{CursorAt}
@@ -35,7 +31,7 @@ use Rattle.nc_spool_state.specs.Starting.{StartingAt, with_edge, start_awaits}
 use Rattle.nc_spool.specs.Depart.{other_names, names_with, left, left_by, departed, departed_by, member_gone, member_gone_by, gone}
 use Rattle.nc_spool.specs.Arrive.{oldest_cursor, joined, started_by, arrived}
 use Rattle.nc_spool.specs.Newest.{begun, parked, second_by, answered_all, went_on, edge_heard, edge_heard_at, edge_answered, edge_answered_by}
-use Rattle.nc_spool_laws.specs.Resting.{Restful, is_found, is_any_found, PlacesRest, Rests, AllRest, BoardRests}
+use Rattle.nc_spool_laws.specs.Resting.{Restful, is_any_found, PlacesRest, Rests, AllRest, BoardRests}
 use Rattle.nc_spool_laws.proofs.Lists.{all-insert, all-without, all-found}
 use Rattle.nc_spool_laws.proofs.Same.{asked-shelf, parted-shelf, joined-shelf, fences-shelf, edges-shelf, behinds-shelf}
 

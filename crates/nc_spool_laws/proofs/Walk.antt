@@ -1,12 +1,11 @@
 -- Each call keeps what each of its small steps keeps.
-use Rattle.std.proofs.Common.{◌≡◌, ℕ, zero, suc, ◌+◌, ◌<◌, Bool, true, false, cond, List, [], ◌∷◌, refl, sym, subst, Option, Some, None, find, length, ◌==◌, arith, eqb}
+use Rattle.std.proofs.Common.{◌≡◌, ℕ, ◌<◌, Bool, true, false, cond, List, [], ◌∷◌, refl, sym, subst, Option, Some, None, find, length, ◌==◌, arith, eqb}
 use Rattle.std.specs.Prelude.{fold}
 use Rattle.nc_types.specs.Id.{Id, is_past}
 use Rattle.nc_types.specs.Cursor.{CursorAt}
 use Rattle.nc_types.specs.declared.start.Start.{Start}
 use Rattle.nc_types.specs.declared.start.Start.TheVariants as starts
-use Rattle.nc_spool.specs.declared.fact.Fact.{Fact}
-use Rattle.nc_spool.specs.declared.fact.Fact.TheVariants.{Out, Started, Sent, Ended}
+use Rattle.nc_spool.specs.declared.fact.Fact.TheVariants.{Started, Sent, Ended}
 use Rattle.nc_spool_state.specs.declared.place.Quiet.{Quiet}
 use Rattle.nc_spool_state.specs.declared.place.Place.{Place}
 use Rattle.nc_spool_state.specs.declared.place.Place.TheVariants.{Asked, Nothing, Found}
@@ -14,25 +13,23 @@ use Rattle.nc_spool_state.specs.declared.spool.Reader.{Reader}
 use Rattle.nc_spool_state.specs.declared.choice.Find.{Find}
 use Rattle.nc_spool_state.specs.declared.choice.Choice.{Choice}
 use Rattle.nc_spool_state.specs.declared.choice.Choice.TheVariants.{Wait, Fence, Send}
-use Rattle.nc_spool.specs.declared.decide.Delivery.{Delivery}
 use Rattle.nc_spool_state.specs.declared.hear.News.{News}
-use Rattle.nc_spool_state.specs.declared.edge.Edge.{Edge}
-use Rattle.nc_spool_state.specs.declared.edge.Edge.TheVariants.{Awaited, Known}
+use Rattle.nc_spool_state.specs.declared.edge.Edge.TheVariants.{Known}
 use Rattle.nc_spool.specs.declared.board.Board.{Board}
 use Rattle.nc_spool_state.specs.Key.{KeyAt, id_at, place_of}
 use Rattle.nc_spool_state.specs.Place.{place_awaiting}
 use Rattle.nc_spool_state.specs.Spool.{SpoolAt, is_of, awaits, has_reader, with_reader, without_reader, place_at, with_place}
-use Rattle.nc_spool_state.specs.Shelf.{spool_of, others, without_first, with_spool, keys_with}
-use Rattle.nc_spool_state.specs.Choice.{is_any_asked, is_any_below, soonest, choice, choice_by}
+use Rattle.nc_spool_state.specs.Shelf.{spool_of, without_first, with_spool, keys_with}
+use Rattle.nc_spool_state.specs.Choice.{is_any_asked, soonest, choice, choice_by}
 use Rattle.nc_spool_state.specs.Edge.{is_any_awaited, is_any_behind, newest_cursor, edge_awaiting}
 use Rattle.nc_spool_state.specs.Starting.{StartingAt, with_edge, start_awaits, starts_with}
-use Rattle.nc_spool.specs.Board.{told, made, shelved, asked_from, fresh_spool, standing, opened, entered, parted, ended}
-use Rattle.nc_spool.specs.Decide.{fence_looks, fenced_places, delivery, sending, sent_one, sent, decided, decided_by}
+use Rattle.nc_spool.specs.Board.{told, shelved, standing, opened, entered, parted, ended}
+use Rattle.nc_spool.specs.Decide.{delivery, sending, sent_one, decided, decided_by}
 use Rattle.nc_spool_state.specs.Hear.{found_by, learned, notice_says, gone_says}
-use Rattle.nc_spool.specs.Hear.{looked_again, heeded, noticed, noticed_at, noticed_by, noticed_in, noticed_place, emptied, emptied_at, emptied_by, emptied_in, emptied_place, answered, answered_by, answered_in, answered_at}
+use Rattle.nc_spool.specs.Hear.{heeded, noticed_at, noticed_by, noticed_in, noticed_place, emptied_at, emptied_by, emptied_in, emptied_place, answered, answered_by, answered_in, answered_at}
 use Rattle.nc_spool.specs.Depart.{other_names, names_with, left, left_by, departed, departed_by, member_gone, member_gone_by, gone}
 use Rattle.nc_spool.specs.Arrive.{oldest_cursor, joined, started_by, arrived}
-use Rattle.nc_spool.specs.Newest.{begun, parked, behind_edges, edges_behind, second_by, answered_all, went_on, edge_heard, edge_heard_at, edge_answered, edge_answered_by}
+use Rattle.nc_spool.specs.Newest.{begun, parked, second_by, answered_all, went_on, edge_heard, edge_heard_at, edge_answered, edge_answered_by}
 use Rattle.nc_spool_laws.specs.Closed.{out, out_start, first_key, RestsOn, IsSending, IsClosed, IsKept}
 use Rattle.nc_spool_laws.proofs.Lists.{none-without}
 

@@ -1,27 +1,24 @@
 -- What each call keeps, if each of its small steps does.
-use Rattle.std.specs.Prelude.{◌≡◌, ℕ, ◌<◌, Bool, true, false, List, [], ◌∷◌, Option, None, Some, find, length}
+use Rattle.std.specs.Prelude.{◌≡◌, ℕ, ◌<◌, Bool, true, false, List, Option, None, Some, find, length}
 use Rattle.nc_types.specs.Id.{Id, is_past}
 use Rattle.nc_types.specs.Cursor.{CursorAt}
 use Rattle.nc_types.specs.declared.start.Start.{Start}
 use Rattle.nc_types.specs.declared.start.Start.TheVariants.{Oldest, Newest, Given}
-use Rattle.nc_spool.specs.declared.fact.Fact.{Fact}
 use Rattle.nc_spool.specs.declared.fact.Fact.TheVariants.{Started, Sent, Ended}
 use Rattle.nc_spool_state.specs.declared.choice.Find.{Find}
-use Rattle.nc_spool_state.specs.declared.choice.Choice.{Choice}
 use Rattle.nc_spool_state.specs.declared.choice.Choice.TheVariants.{Fence, Send}
 use Rattle.nc_spool_state.specs.declared.place.Quiet.{Quiet}
 use Rattle.nc_spool_state.specs.declared.place.Place.{Place}
 use Rattle.nc_spool_state.specs.declared.place.Place.TheVariants.{Asked, Nothing, Found}
 use Rattle.nc_spool_state.specs.declared.spool.Reader.{Reader}
 use Rattle.nc_spool_state.specs.declared.hear.News.{News}
-use Rattle.nc_spool_state.specs.declared.edge.Edge.{Edge}
-use Rattle.nc_spool_state.specs.declared.edge.Edge.TheVariants.{Awaited, Known}
+use Rattle.nc_spool_state.specs.declared.edge.Edge.TheVariants.{Known}
 use Rattle.nc_spool.specs.declared.board.Board.{Board}
 use Rattle.nc_spool_state.specs.Key.{KeyAt, id_at, place_of}
 use Rattle.nc_spool_state.specs.Place.{place_awaiting}
-use Rattle.nc_spool_state.specs.Spool.{SpoolAt, is_of, has_reader, with_reader, without_reader, place_at, with_place}
+use Rattle.nc_spool_state.specs.Spool.{SpoolAt, is_of, with_reader, without_reader, place_at, with_place}
 use Rattle.nc_spool_state.specs.Shelf.{without_first}
-use Rattle.nc_spool_state.specs.Edge.{edge_awaiting, newest_time, newest_cursor}
+use Rattle.nc_spool_state.specs.Edge.{newest_time, newest_cursor}
 use Rattle.nc_spool_state.specs.Starting.{StartingAt, with_edge}
 use Rattle.nc_spool_state.specs.Choice.{is_any_asked, choice}
 use Rattle.nc_spool.specs.Board.{told, parted, shelved, asked_from, fresh_spool}

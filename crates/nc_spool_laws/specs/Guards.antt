@@ -1,11 +1,9 @@
 -- What holds of the places of a spool when it sends.
-use Rattle.std.specs.Prelude.{◌≡◌, ℕ, ◌<◌, ◌≤◌, false, List, slice_index_or}
+use Rattle.std.specs.Prelude.{◌≡◌, ℕ, ◌<◌, ◌≤◌, List, slice_index_or}
 use Rattle.std.specs.List.{AllByRecursion}
-use Rattle.nc_spool_state.specs.declared.place.Quiet.{Quiet}
 use Rattle.nc_spool_state.specs.declared.place.Place.{Place}
 use Rattle.nc_spool_state.specs.declared.place.Place.TheVariants.{Asked, Nothing, Found}
 use Rattle.nc_spool_state.specs.declared.choice.Find.{Find}
-use Rattle.nc_spool_state.specs.declared.choice.Choice.{Choice}
 use Rattle.nc_spool_state.specs.declared.choice.Choice.TheVariants.{Send}
 use Rattle.nc_spool_state.specs.Spool.{no_place}
 use Rattle.nc_spool_state.specs.Choice.{choice}

@@ -1,5 +1,5 @@
 -- Which hold is released: the least one without a use.
-use Rattle.std.specs.Prelude.{◌≡◌, ◌⊎◌, ℕ, true, false, List, Option, None, Some, find}
+use Rattle.std.specs.Prelude.{◌≡◌, ◌⊎◌, true, false, None, Some, find}
 use Rattle.std.specs.List.{AllByRecursion}
 use Rattle.nc_spool_state.specs.declared.kept.Held.{Held}
 use Rattle.nc_spool_state.specs.Kept.{is_used, is_idle}

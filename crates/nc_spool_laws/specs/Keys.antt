@@ -1,5 +1,5 @@
 -- The keys of spools: distinct names, and a tag for each of them.
-use Rattle.std.specs.Prelude.{◌≡◌, ℕ, List, Option, IfSome, length}
+use Rattle.std.specs.Prelude.{◌≡◌, IfSome, length}
 use Rattle.std.specs.List.{AllByRecursion}
 use Rattle.nc_types.specs.Channel.{AreDistinct}
 use Rattle.nc_spool_state.specs.declared.choice.Find.{Find}

@@ -11,7 +11,7 @@ use Rattle.nc_spool_state.specs.declared.place.Place.{Place}
 use Rattle.nc_spool_state.specs.declared.place.Place.TheVariants.{Asked, Nothing, Found}
 use Rattle.nc_spool_state.specs.declared.hear.News.{News}
 use Rattle.nc_spool.specs.declared.board.Board.{Board}
-use Rattle.nc_spool_state.specs.Key.{KeyAt, name_at, id_at}
+use Rattle.nc_spool_state.specs.Key.{name_at, id_at}
 use Rattle.nc_spool_state.specs.Spool.{SpoolAt, place_at}
 use Rattle.nc_spool_state.specs.Starting.{StartingAt}
 use Rattle.nc_spool_laws.specs.Closed.{IsKept}

@@ -1,6 +1,5 @@
 -- The rules of entering and of sending, in their own words.
-use Rattle.std.specs.Prelude.{◌≡◌, ℕ, ◌<◌, true, false, List, [], ◌∷◌, ◌++◌, Option, None, Some, map, find}
-use Rattle.std.specs.List.{AllByRecursion}
+use Rattle.std.specs.Prelude.{◌≡◌, true, false, List, [], ◌∷◌, ◌++◌, Some, map}
 use Rattle.nc_types.specs.Cursor.{moved}
 use Rattle.nc_spool_state.specs.declared.choice.Find.{Find}
 use Rattle.nc_spool_state.specs.declared.spool.Reader.{Reader}

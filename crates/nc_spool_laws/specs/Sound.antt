@@ -1,11 +1,11 @@
 -- What holds of the spools of a worker between two calls.
-use Rattle.std.specs.Prelude.{◌≡◌, ℕ, ◌≤◌, Bool, true, false, List, Option, IfSome}
+use Rattle.std.specs.Prelude.{◌≡◌, ℕ, ◌≤◌, Bool, false, List, Option, IfSome}
 use Rattle.std.specs.List.{AllByRecursion}
 use Rattle.nc_types.specs.Id.{Id}
 use Rattle.nc_types.specs.declared.start.Start.{Start}
 use Rattle.nc_spool.specs.declared.spools.Found.{Found}
 use Rattle.nc_spool_state.specs.Kept.{is_kept}
-use Rattle.nc_spool.specs.Calls.{SpoolsAt, new_spools, board_of, with_found, arrive_facts, arrive_after, answer_facts, answer_after, edge_facts, edge_after, notice_facts, notice_after, gone_facts, gone_after, depart_facts, depart_after, without_idle}
+use Rattle.nc_spool.specs.Calls.{SpoolsAt, new_spools, board_of, with_found, arrive_after, answer_facts, answer_after, edge_after, notice_facts, notice_after, gone_after, depart_after, without_idle}
 use Rattle.nc_spool_state.specs.Kept.{with_hold}
 use Rattle.nc_spool_laws.specs.Resting.{AllRest}
 use Rattle.nc_spool_laws.specs.Order.{AreAscending}

@@ -1,6 +1,5 @@
 -- Who stands, and who was ended.
-use Rattle.std.specs.Prelude.{◌≡◌, ℕ, ◌+◌, ◌≤◌, Bool, List, Option, ◌==◌}
-use Rattle.nc_types.specs.Id.{Id}
+use Rattle.std.specs.Prelude.{◌≡◌, ℕ, ◌+◌, ◌≤◌, List, Option, ◌==◌}
 use Rattle.nc_types.specs.declared.start.Start.{Start}
 use Rattle.nc_spool.specs.declared.fact.Fact.{Fact}
 use Rattle.nc_spool.specs.declared.fact.Fact.TheVariants.{Out, Started, Sent, Ended}
