@@ -1,7 +1,7 @@
 -- What was taken is a prefix of what was made.
 use Rattle.std.proofs.Common.{◌≡◌, ℕ, Bool, true, false, cond, List, [], ◌∷◌, ◌++◌, refl, ap, ◌∙◌, sym}
 use Rattle.std.specs.Prelude.{drop}
-use Rattle.std.proofs.lemmas.List.{++-assoc, ++-id-r, map-append}
+use Rattle.std.proofs.lemmas.List.{append_assoc, map-append}
 use Rattle.nc_journal.specs.declared.event.Event.{Event}
 use Rattle.nc_journal.specs.declared.event.Event.TheVariants.{Made, Took}
 use Rattle.nc_journal.specs.declared.alert.AlertLine.{AlertLine}
@@ -10,7 +10,7 @@ use Rattle.nc_history.specs.Packets.{Packet, packet, is_pair, pending, lines_of,
 -- one packet more
 made_one : (b : Bool) (n : ℕ) (a : AlertLine) (sent got : List AlertLine) (ps : List Packet) → sent ≡ got ++ lines_of ps
     → cond b (sent ++ a ∷ []) sent ≡ got ++ lines_of (cond b (ps ++ packet n a ∷ []) ps)
-made_one true n a sent got ps same = ap (λ (l : List AlertLine). l ++ a ∷ []) same ∙ ++-assoc got (lines_of ps) (a ∷ []) ∙ ap (λ (l : List AlertLine). got ++ l) (sym (map-append (λ (p : Packet). p.line) ps (packet n a ∷ [])))
+made_one true n a sent got ps same = ap (λ (l : List AlertLine). l ++ a ∷ []) same ∙ append_assoc got (lines_of ps) (a ∷ []) ∙ ap (λ (l : List AlertLine). got ++ l) (sym (map-append (λ (p : Packet). p.line) ps (packet n a ∷ [])))
 made_one false n a sent got ps same = same
 
 -- the first of some packets is taken
@@ -20,7 +20,7 @@ first_and_rest (p ∷ ps) = refl
 
 took_one : (b : Bool) (sent got : List AlertLine) (ps : List Packet) → sent ≡ got ++ lines_of ps
     → sent ≡ cond b (got ++ first_line ps) got ++ lines_of (cond b (drop 1 ps) ps)
-took_one true sent got ps same = same ∙ ap (λ (l : List AlertLine). got ++ l) (first_and_rest ps) ∙ sym (++-assoc got (first_line ps) (lines_of (drop 1 ps)))
+took_one true sent got ps same = same ∙ ap (λ (l : List AlertLine). got ++ l) (first_and_rest ps) ∙ sym (append_assoc got (first_line ps) (lines_of (drop 1 ps)))
 took_one false sent got ps same = same
 
 pub taken_is_prefix : TakenIsPrefix

@@ -1,5 +1,5 @@
 -- The calls of a worker's spools as its deeds, and the release of holds that nobody uses.
-use Rattle.std.specs.Prelude.{ℕ, Bool, not, List, [], ◌∷◌, ◌++◌, Option, None, Some, if◌then◌else◌, map, filter}
+use Rattle.std.specs.Prelude.{ℕ, Bool, not, List, Option, None, Some, if◌then◌else◌, map, filter}
 use Rattle.nc_types.specs.Id.{Id}
 use Rattle.nc_types.specs.declared.start.Start.{Start}
 use Rattle.nc_journal.specs.declared.event.Event.TheVariants as events

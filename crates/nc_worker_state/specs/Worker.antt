@@ -1,5 +1,5 @@
 -- A worker, and what one step of it is.
-use Rattle.std.specs.Prelude.{◌≡◌, ℕ, ◌+◌, ◌-◌, suc, ◌^◌, Bool, true, false, ◌||◌, List, [], ◌∷◌, ◌++◌, if◌then◌else◌, ◌==◌, nat_le, slice_index, slice_set}
+use Rattle.std.specs.Prelude.{◌≡◌, ℕ, zero, suc, ◌^◌, Bool, true, false, ◌||◌, List, [], ◌∷◌, ◌++◌, if◌then◌else◌, ◌==◌, nat_le}
 use Rattle.std.specs.List.{list_any}
 use Rattle.nc_types.specs.Message.{Message}
 use Rattle.nc_journal.specs.declared.event.Event.{Event}
@@ -114,7 +114,7 @@ is_worn_number n = nat_le (2 ^ 63) n
 
 -- it is so of the numbers of packets to one of the workers below a number
 abbrev pub any_worn : ℕ → (ℕ → ℕ) → Bool
-any_worn 0 next = false
+any_worn zero next = false
 any_worn (suc n) next = any_worn n next || is_worn_number (next n)
 
 -- a worker is worn where one of its counters is: of looks and edges asked, of looks told, of grants, of requests, or of packets to a worker

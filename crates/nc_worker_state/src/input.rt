@@ -12,7 +12,10 @@ pub enum Input<H> {
     /// It goes over the channels that it owns: what has expired leaves, and slots that nobody holds are used again.
     Reap,
     /// A message is published directly, without a content type.
-    Post { chan: ChanName, body: Bytes },
+    Post {
+        chan: ChanName,
+        body: Bytes,
+    },
     /// A direct subscriber comes, whose number is new.
     Poll {
         k: u64,
@@ -20,5 +23,7 @@ pub enum Input<H> {
         start: Start,
     },
     /// Information on a channel is asked for directly.
-    Inform { chan: ChanName },
+    Inform {
+        chan: ChanName,
+    },
 }

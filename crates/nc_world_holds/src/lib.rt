@@ -1,0 +1,6 @@
+//! Holds in reached worlds: what an owner granted to a worker is released, on its way, or kept by the worker's spools.
+//!
+//! Below are the pure world and what is good of it. Each law is a public function with an empty body.
+#![tactic(auto)]
+
+pub mod balance;
