@@ -12,9 +12,9 @@ use Rattle.nc_worker_state.specs.Incoming.{Incoming, TakesPacket, ClockReads, Re
 use Rattle.nc_world.specs.World.{World, new_world}
 use Rattle.nc_world.specs.Moves.{Move, Handles, Carries, Takes, Counts, Rests, move_events, moved}
 
--- a setup: there is a worker
+-- a setup: there are one to sixteen workers, and what is posted directly has a message's timeout
 abbrev pub IsSetup : Setup → Type 0
-IsSetup setup = (0 < setup.workers) × (setup.timeout ≤ 1000000000)
+IsSetup setup = (0 < setup.workers) × (setup.timeout ≤ 1000000000) × (setup.workers ≤ 16)
 
 -- nobody starts behind the newest message yet
 abbrev pub IsStart : Start → Type 0

@@ -1,5 +1,5 @@
 -- Laws of reached worlds.
-use Rattle.std.specs.Prelude.{ℕ, List}
+use Rattle.std.specs.Prelude.{List}
 use Rattle.nc_journal.specs.declared.event.Event.{Event}
 use Rattle.nc_worker_state.specs.Setup.{Setup}
 use Rattle.nc_world.specs.World.{World}

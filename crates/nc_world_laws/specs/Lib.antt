@@ -1,3 +1,4 @@
+pub mod Kinds
 pub mod Good
 pub mod OwnerTheme
 pub mod Laws

@@ -1,5 +1,5 @@
 -- A theme of the owners: what each step of one owner keeps holds of each owner of a reached world.
-use Rattle.std.specs.Prelude.{◌≡◌, ℕ, ◌≤◌, true, List, [], ◌∷◌, map, replicate}
+use Rattle.std.specs.Prelude.{◌≡◌, ℕ, ◌<◌, true, List, [], ◌∷◌, map, replicate}
 use Rattle.nc_types.specs.Id.{Id}
 use Rattle.nc_types.specs.Channel.{owner_of}
 use Rattle.nc_types.specs.Message.{Message}
@@ -33,17 +33,17 @@ pub record StepBase (setup : Setup) (me : ℕ) (row : List (Slot Message)) (coun
   pub keeps : Keeps me setup.workers setup.slots setup.first row h s
   pub holds : HoldsFit row counts
 
--- the steps of owner `me` keep a fact: its own, on channels that it owns, and all that its worker does beside it
+-- the steps of owner `me` keep a fact: its own, on channels that it owns and asked by workers that are there, and all that its worker does beside it
 pub record StepsKeep (setup : Setup) (me : ℕ) (P : OwnerFact) (next : ℕ → ℕ) (row : List (Slot Message)) (counts : List ℕ) (h : List Event) (s : OwnerAt) : Type 0 where
   pub aside : (e : Event) → IsAside e → is_by me e ≡ true → P row (e ∷ h) s
   pub clock : (now : ℕ) → P row (Clock me now ∷ h) (with_clock now s)
-  pub join : (m : Member) (c : List ℕ) → owner_of setup.workers c ≡ me → P (touched_row c row s) (onto (weave me next (join_events m c row s) []) h) (join_after m c row s)
-  pub part : (m : Member) (c : List ℕ) → owner_of setup.workers c ≡ me → P (touched_row c row s) (onto (weave me next (part_events m c row s) []) h) (part_after m c row s)
-  pub info : (from r : ℕ) (c : List ℕ) → owner_of setup.workers c ≡ me → P (touched_row c row s) (onto (weave me next (touch_events_of c row s) (info_alerts from r c row s)) h) (touch_after c row s)
+  pub join : (m : Member) (c : List ℕ) → owner_of setup.workers c ≡ me → m.from < setup.workers → P (touched_row c row s) (onto (weave me next (join_events m c row s) []) h) (join_after m c row s)
+  pub part : (m : Member) (c : List ℕ) → owner_of setup.workers c ≡ me → m.from < setup.workers → P (touched_row c row s) (onto (weave me next (part_events m c row s) []) h) (part_after m c row s)
+  pub info : (from r : ℕ) (c : List ℕ) → owner_of setup.workers c ≡ me → from < setup.workers → P (touched_row c row s) (onto (weave me next (touch_events_of c row s) (info_alerts from r c row s)) h) (touch_after c row s)
   pub sweep : (c : List ℕ) → P (touched_row c row s) (onto (weave me next (touch_events_of c row s) []) h) (touch_after c row s)
-  pub look : (from number : ℕ) (c : List ℕ) (id : Id) → owner_of setup.workers c ≡ me → P (look_row from c id row s) (onto (weave me next (look_events from number c id row s) (look_alerts from number c id row s)) h) (look_after from c id row s)
+  pub look : (from number : ℕ) (c : List ℕ) (id : Id) → owner_of setup.workers c ≡ me → from < setup.workers → P (look_row from c id row s) (onto (weave me next (look_events from number c id row s) (look_alerts from number c id row s)) h) (look_after from c id row s)
   pub polled : (answers : List PollAnswer) → map slot_of answers ≡ s.desk.retired → P (polled_row answers row) (onto (weave me next (polled_events answers s) []) h) (polled_after answers s)
-  pub publish : (from : ℕ) (o : Order) (polls : Polls) → owner_of setup.workers o.chan ≡ me → PublishPolls true counts o row s polls
+  pub publish : (from : ℕ) (o : Order) (polls : Polls) → owner_of setup.workers o.chan ≡ me → from < setup.workers → PublishPolls true counts o row s polls
       → P (publish_row o polls row s) (onto (weave me next (publish_events from o polls row s) (publish_alerts from o polls row s)) h) (publish_after o polls row s)
 
 -- a theme: a fact that holds of a new owner and that each step keeps
@@ -53,4 +53,4 @@ pub record IsOwnerTheme (setup : Setup) (me : ℕ) (P : OwnerFact) : Type 0 wher
 
 -- it holds of that owner in each reached world
 abbrev pub OwnerThemeHolds : Setup → ℕ → OwnerFact → Type 0
-OwnerThemeHolds setup me P = IsOwnerTheme setup me P → (h : List Event) (world : World) → Reached setup h world → P (world.rows me) (own me h) (world.workers me).owner
+OwnerThemeHolds setup me P = IsSetup setup → IsOwnerTheme setup me P → (h : List Event) (world : World) → Reached setup h world → P (world.rows me) (own me h) (world.workers me).owner

@@ -1,0 +1,13 @@
+pub mod Local
+pub mod Queues
+pub mod Telling
+pub mod Numbers
+pub mod Asking
+pub mod Serving
+pub mod Owning
+pub mod Stepping
+pub mod Acting
+pub mod Taking
+pub mod Parts
+pub mod Moving
+pub mod Themes

@@ -1,0 +1,123 @@
+-- The events of a worker's step, behind what opens it: of which kinds they are, how they are numbered, and what is sent.
+use Rattle.std.proofs.Common.{◌≡◌, ℕ, List, ◌++◌, sym, ap, ◌∙◌, subst}
+use Rattle.std.specs.List.{AllByRecursion}
+use Rattle.nc_journal.specs.History.{own, onto}
+use Rattle.nc_journal.specs.declared.event.Event.{Event}
+use Rattle.nc_journal.specs.declared.event.Event.TheVariants.{Made}
+use Rattle.nc_journal.specs.declared.alert.AlertLine.{AlertLine}
+use Rattle.nc_owner.specs.AlertLines.{OutLine}
+use Rattle.nc_owner_laws.specs.Kinds.{IsOfOwner}
+use Rattle.nc_worker_state.specs.Setup.{Setup}
+use Rattle.nc_worker_state.specs.Incoming.{Incoming, TakesPacket, ClockReads, Reaps, Posts, Subscribes, Informs}
+use Rattle.nc_worker_state.specs.Deed.{told, next_after}
+use Rattle.nc_worker_state.specs.Owned.{Owned, owned}
+use Rattle.nc_worker_state.specs.Desk.{Served, opening, served}
+use Rattle.nc_worker_state.specs.Worker.{holding, woven}
+use Rattle.nc_owner_laws.proofs.Stamping.{onto_append}
+use Rattle.nc_world.specs.World.{World, seat, polls_of, handled_events}
+use Rattle.nc_world.specs.Reached.{IsSetup}
+use Rattle.nc_world_laws.specs.Kinds.{IsBy, IsUntaken, IsUnmade, IsOfWorker, AsksOwner, AreDeeds}
+use Rattle.nc_world_laws.specs.Good.{IsLineTo, Good}
+use Rattle.nc_world_laws.specs.OwnerTheme.{OwnerFact, IsOwnerTheme}
+use Rattle.nc_world_laws.proofs.Local.{eqb_self, all_of, all_append}
+use Rattle.nc_world_laws.proofs.Telling.{told_made, told_all, deeds_do, deeds_make, woven_made, woven_all, by_owner, by_worker, unmade_owner, unmade_worker, untaken_owner, untaken_worker, line_asked}
+use Rattle.nc_world_laws.proofs.Numbers.{AreNumbered, numbered_append, weave_numbered, told_numbered}
+use Rattle.nc_world_laws.proofs.Serving.{served_well}
+use Rattle.nc_world_laws.proofs.Owning.{of_owned, right_owned}
+use Rattle.nc_world_laws.proofs.Stepping.{is_me, IsRight, Themed, told_themed, part_themed}
+use Rattle.nc_world_laws.proofs.Acting.{MakesRightly}
+
+unmade_right : (workers : ℕ) (e : Event) → IsUnmade e → MakesRightly workers e
+unmade_right workers (Made w to n a) p = absurd p
+unmade_right workers e p = tt
+
+-- what the owner of a worker does, and what the worker does beside it
+abbrev pub owns : ℕ → Incoming → World → Owned
+owns w incoming world = owned incoming (holding w (seat w world))
+
+abbrev pub serves : Setup → ℕ → Incoming → World → Served
+serves setup w incoming world = served setup w incoming (world.workers w).desk
+
+abbrev pub before : Setup → ℕ → Incoming → World → List Event
+before setup w incoming world = opening setup w incoming (world.workers w).desk
+
+-- the events of the owner's part, and those behind them
+abbrev pub part : ℕ → Incoming → World → List Event
+part w incoming world = woven w (world.workers w).next (owns w incoming world)
+
+abbrev pub behind : Setup → ℕ → Incoming → World → List Event
+behind setup w incoming world = told w (next_after (world.workers w).next (part w incoming world)) (serves setup w incoming world).deeds
+
+abbrev pub rest : Setup → ℕ → Incoming → World → List Event
+rest setup w incoming world = part w incoming world ++ behind setup w incoming world
+
+module _ (setup : Setup) (is : IsSetup setup) (w : ℕ) (incoming : Incoming) (h : List Event) (world : World) (g : Good setup h world) where
+  me : (world.workers w).owner.desk.me ≡ w
+  me = is_me w setup.workers setup.slots setup.first (world.rows w) (own w h) (world.workers w).owner (g.keeps w).stands
+
+  of : AllByRecursion (IsOfOwner w) (owns w incoming world).events
+  of = of_owned w (polls_of w incoming world) incoming (holding w (seat w world)) me
+
+  well : AreDeeds setup.workers w (serves setup w incoming world).deeds
+  well = (served_well setup is w incoming (world.workers w).desk (g.knows w)).0
+
+  -- what holds of what an owner and a worker do, and of what is made, holds of these events
+  pub rest_all : (P : Event → Type 0) → ((e : Event) → IsOfOwner w e → P e) → ((e : Event) → IsOfWorker w e → P e) → ((to n : ℕ) (a : AlertLine) → P (Made w to n a)) → AllByRecursion P (rest setup w incoming world)
+  rest_all P a b m =
+      all_append P (part w incoming world) _
+      (woven_all P w (world.workers w).next m (owns w incoming world).events (owns w incoming world).alerts (all_of (IsOfOwner w) P a (owns w incoming world).events of))
+      (told_all P w _ m (serves setup w incoming world).deeds (deeds_do setup.workers w P b (serves setup w incoming world).deeds well))
+
+  -- the same where it holds of those alerts alone that are rightly made
+  pub rest_made : (P : Event → Type 0) → ((e : Event) → IsOfOwner w e → P e) → ((e : Event) → IsOfWorker w e → P e) → ((to n : ℕ) (a : AlertLine) → IsLineTo setup.workers to a → P (Made w to n a)) → AllByRecursion P (rest setup w incoming world)
+  rest_made P a b m =
+      all_append P (part w incoming world) _
+      (woven_made P (λ (o : OutLine). IsLineTo setup.workers o.to o.line) w (λ n o r. m o.to n o.line r) (world.workers w).next (owns w incoming world).events (owns w incoming world).alerts (all_of (IsOfOwner w) P a (owns w incoming world).events of) (right_owned setup.workers (polls_of w incoming world) incoming (holding w (seat w world))))
+      (told_made P (AsksOwner setup.workers) w _ (λ to n l q. m to n l (line_asked setup.workers to l q)) (serves setup w incoming world).deeds (deeds_do setup.workers w P b (serves setup w incoming world).deeds well) (deeds_make setup.workers w (serves setup w incoming world).deeds well))
+
+  pub rest_by : AllByRecursion (IsBy w) (rest setup w incoming world)
+  rest_by = rest_all (IsBy w) (by_owner w) (by_worker w) (λ to n a. eqb_self w)
+
+  pub rest_untaken : AllByRecursion IsUntaken (rest setup w incoming world)
+  rest_untaken = rest_all IsUntaken (untaken_owner w) (untaken_worker w) (λ to n a. tt)
+
+  pub rest_numbered : AreNumbered (world.workers w).next (rest setup w incoming world)
+  rest_numbered = numbered_append (world.workers w).next (part w incoming world) _
+      (weave_numbered w (world.workers w).next (owns w incoming world).events (owns w incoming world).alerts (all_of (IsOfOwner w) IsUnmade (unmade_owner w) (owns w incoming world).events of))
+      (told_numbered w _ (serves setup w incoming world).deeds (deeds_do setup.workers w IsUnmade (unmade_worker w) (serves setup w incoming world).deeds well))
+
+  pub rest_right : AllByRecursion (MakesRightly setup.workers) (rest setup w incoming world)
+  rest_right = rest_made (MakesRightly setup.workers) (λ e q. unmade_right setup.workers e (unmade_owner w e q)) (λ e q. unmade_right setup.workers e (unmade_worker w e q)) (λ to n a r. r)
+
+  -- ---- the whole step
+
+  pub opening_by : AllByRecursion (IsBy w) (opening setup w incoming (world.workers w).desk)
+  opening_by = by incoming
+    where
+      by : (i : Incoming) → AllByRecursion (IsBy w) (opening setup w i (world.workers w).desk)
+      by (TakesPacket from p) = (eqb_self w, tt)
+      by (ClockReads t) = (eqb_self w, tt)
+      by Reaps = tt
+      by (Posts c body) = (eqb_self w, tt)
+      by (Subscribes k list start) = (eqb_self w, tt)
+      by (Informs c) = (eqb_self w, tt)
+
+  -- the events of a step are the worker's own
+  pub step_by : AllByRecursion (IsBy w) (handled_events setup w incoming world)
+  step_by =
+      all_append (IsBy w) (before setup w incoming world ++ part w incoming world) _
+      (all_append (IsBy w) (before setup w incoming world) (part w incoming world) opening_by (woven_all (IsBy w) w (world.workers w).next (λ to n a. eqb_self w) (owns w incoming world).events (owns w incoming world).alerts (all_of (IsOfOwner w) (IsBy w) (by_owner w) (owns w incoming world).events of)))
+      (told_all (IsBy w) w _ (λ to n a. eqb_self w) (serves setup w incoming world).deeds (deeds_do setup.workers w (IsBy w) (by_worker w) (serves setup w incoming world).deeds well))
+
+  -- a theme of the owner over the step
+  pub step_themed : (P : OwnerFact) (theme : IsOwnerTheme setup w P) → IsRight setup w incoming → P (world.rows w) (own w h) (world.workers w).owner
+      → Themed setup w P theme (owns w incoming world).after.row (owns w incoming world).after.counts (onto (handled_events setup w incoming world) (own w h)) (owns w incoming world).after.owner
+  step_themed P theme right p =
+      let o = owns w incoming world in
+      let first = before setup w incoming world in
+      let second = part w incoming world in
+      let third = behind setup w incoming world in
+      let t = part_themed setup w P theme incoming (world.workers w).next (world.workers w).desk (own w h) (holding w (seat w world)) right (record { base = record { keeps = g.keeps w; holds = g.holds w }; fact = p }) in
+      let u = told_themed setup w P theme o.after.row o.after.counts o.after.owner (next_after (world.workers w).next second) (serves setup w incoming world).deeds (onto second (onto first (own w h))) well t in
+      subst (λ (l : List Event). Themed setup w P theme o.after.row o.after.counts l o.after.owner)
+      (sym (onto_append (first ++ second) third (own w h) ∙ ap (λ (l : List Event). onto third l) (onto_append first second (own w h)))) u

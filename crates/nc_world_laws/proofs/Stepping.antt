@@ -1,0 +1,207 @@
+-- A theme of owners over one step of its worker: what opens the step, the owner's part, and the rest.
+use Rattle.std.proofs.Common.{◌≡◌, ℕ, ◌<◌, true, List, [], ◌∷◌, ◌++◌, sym, ap, ◌∙◌, subst, fold}
+use Rattle.nc_types.specs.Message.{Message}
+use Rattle.nc_journal.specs.History.{onto}
+use Rattle.nc_journal.specs.declared.event.Event.{Event}
+use Rattle.nc_journal.specs.declared.event.Event.TheVariants.{Clock, Made}
+use Rattle.nc_journal.specs.declared.alert.AlertLine.{AlertLine}
+use Rattle.nc_journal.specs.declared.alert.AlertLine.TheVariants as lines
+use Rattle.nc_slots.specs.declared.slot.Slot.{Slot}
+use Rattle.nc_owner.specs.declared.desk.Desk.{Desk as OwnerDesk}
+use Rattle.nc_owner.specs.AlertLines.{OutLine}
+use Rattle.nc_owner.specs.State.{OwnerAt}
+use Rattle.nc_owner.specs.Poll.{freed_events}
+use Rattle.nc_owner.specs.Publish.{publish_events, publish_alerts, publish_row, publish_after}
+use Rattle.nc_owner.specs.Look.{look_events, look_alerts, look_row, look_after}
+use Rattle.nc_owner.specs.OtherSteps.{touch_events_of, touched_row, touch_after, join_events, join_after, part_events, part_after, info_alerts, polled_events, polled_row, polled_after, with_clock, names_of}
+use Rattle.nc_reaper.specs.Reap.{Swept, state, swept, swept_all}
+use Rattle.nc_owner_laws.specs.Aside.{IsAside}
+use Rattle.nc_owner_laws.specs.Filters.{new_desk}
+use Rattle.nc_owner_laws.specs.OwnerStanding.{Stands, StepsStand}
+use Rattle.nc_owner_laws.specs.InOrder.{StepsInOrder}
+use Rattle.nc_owner_laws.specs.AnsweredOnce.{StepsAnswerNew}
+use Rattle.nc_owner_laws.specs.HoldsKept.{StepsHold, told_polls, told_answers}
+use Rattle.nc_owner_laws.specs.Reaping.{Keeps}
+use Rattle.nc_owner_laws.specs.Weave.{weave, numbered}
+use Rattle.nc_owner_laws.proofs.Stamping as stamping
+use Rattle.nc_owner_laws.proofs.OwnerSteps as steps
+use Rattle.nc_owner_laws.proofs.InOrder as order
+use Rattle.nc_owner_laws.proofs.AnsweredOnce as answers
+use Rattle.nc_owner_laws.proofs.Aside as beside
+use Rattle.nc_owner_laws.proofs.HoldsKept as holding_laws
+use Rattle.nc_owner_laws.proofs.ToldPolls.{told_are_polls, slots_told}
+use Rattle.nc_worker_state.specs.Setup.{Setup}
+use Rattle.nc_worker_state.specs.Incoming.{Incoming, TakesPacket, ClockReads, Reaps, Posts, Subscribes, Informs}
+use Rattle.nc_worker_state.specs.Deed.{Deed, Does, Makes, told}
+use Rattle.nc_worker_state.specs.Owned.{Holding, Owned, owned, owned_by, line_polls, order_of, member_of}
+use Rattle.nc_worker_state.specs.Desk.{Desk, opening}
+use Rattle.nc_worker_state.specs.Worker.{woven}
+use Rattle.nc_owner_laws.proofs.Stamping.{onto_append}
+use Rattle.nc_world_laws.specs.Good.{IsLineTo}
+use Rattle.nc_world_laws.specs.Kinds.{IsBy, AreDeeds}
+use Rattle.nc_world_laws.specs.OwnerTheme.{OwnerFact, StepBase, StepsKeep, IsOwnerTheme}
+use Rattle.nc_world_laws.proofs.Local.{eqb_self}
+use Rattle.nc_world_laws.proofs.Telling.{weave_nothing, by_worker, aside_worker, plain_asked}
+
+-- an owner has its worker's number
+pub is_me : (me workers slots first : ℕ) (row : List (Slot Message)) (h : List Event) (s : OwnerAt) → Stands me workers slots first row h s → s.desk.me ≡ me
+is_me me workers slots first row h s k = ap (λ (d : OwnerDesk). d.me) k.tells.desk ∙ stamping.me_law (new_desk me workers slots first) h
+
+-- what is said of an owner's events by its number, and by the worker's
+pub as_me : (Q : List Event → Type 0) (me : ℕ) (next : ℕ → ℕ) (h : List Event) (s : OwnerAt) → s.desk.me ≡ me → (es : List Event) (alerts : List OutLine) → Q (onto (weave s.desk.me next es alerts) h) → Q (onto (weave me next es alerts) h)
+as_me Q me next h s is es alerts q = subst (λ (w : ℕ). Q (onto (weave w next es alerts) h)) is q
+
+module _ (setup : Setup) (me : ℕ) where
+  abbrev pub KeepsFact : OwnerFact
+  KeepsFact row h s = Keeps me setup.workers setup.slots setup.first row h s
+
+  pub aside_keeps : (row : List (Slot Message)) (h : List Event) (s : OwnerAt) (e : Event) → IsAside e → IsBy me e → KeepsFact row h s → KeepsFact row (e ∷ h) s
+  aside_keeps row h s e p by k = record {
+    stands = beside.aside_stands me setup.workers setup.slots setup.first row h s e p by k.stands;
+    ordered = beside.aside_in_order setup.first h e p k.ordered;
+    new_answers = beside.aside_answers_new h e p k.new_answers;
+  }
+
+  module _ (next : ℕ → ℕ) (row : List (Slot Message)) (counts : List ℕ) (h : List Event) (s : OwnerAt) (base : StepBase setup me row counts h s) where
+    is : s.desk.me ≡ me
+    is = is_me me setup.workers setup.slots setup.first row h s base.keeps.stands
+
+    stand : StepsStand me setup.workers setup.slots setup.first next row h s
+    stand = steps.others_stand me setup.workers setup.slots setup.first next row h s base.keeps.stands
+
+    in_order : StepsInOrder setup.first next row h s
+    in_order = order.others_in_order me setup.workers setup.slots setup.first next row h s base.keeps.stands base.keeps.ordered
+
+    new : StepsAnswerNew next row h s
+    new = answers.others_answer_new me setup.workers setup.slots setup.first next row h s base.keeps.stands base.keeps.ordered base.keeps.new_answers
+
+    mine : (r : List (Slot Message)) (x : OwnerAt) (es : List Event) (alerts : List OutLine) → KeepsFact r (onto (weave s.desk.me next es alerts) h) x → KeepsFact r (onto (weave me next es alerts) h) x
+    mine r x es alerts k = as_me (λ l. KeepsFact r l x) me next h s is es alerts k
+
+    -- an owner stands for its history over each of its steps
+    pub keeps_steps : StepsKeep setup me KeepsFact next row counts h s
+    keeps_steps = record {
+      aside = λ e p by. aside_keeps row h s e p by base.keeps;
+      clock = λ now. subst (λ (w : ℕ). KeepsFact row (Clock w now ∷ h) (with_clock now s)) is (record { stands = stand.clock now; ordered = in_order.clock now; new_answers = new.clock now });
+      join = λ m c owns there. mine (touched_row c row s) (join_after m c row s) (join_events m c row s) [] (record { stands = stand.join m c; ordered = in_order.join m c; new_answers = new.join m c });
+      part = λ m c owns there. mine (touched_row c row s) (part_after m c row s) (part_events m c row s) [] (record { stands = stand.part m c; ordered = in_order.part m c; new_answers = new.part m c });
+      info = λ from r c owns there. mine (touched_row c row s) (touch_after c row s) (touch_events_of c row s) (info_alerts from r c row s) (record { stands = stand.info from r c; ordered = in_order.info from r c; new_answers = new.info from r c });
+      sweep = λ c. mine (touched_row c row s) (touch_after c row s) (touch_events_of c row s) [] (record { stands = steps.sweep_stands me setup.workers setup.slots setup.first next c row h s base.keeps.stands; ordered = in_order.sweep c; new_answers = new.sweep c });
+      look = λ from number c id owns there. mine (look_row from c id row s) (look_after from c id row s) (look_events from number c id row s) (look_alerts from number c id row s) (record { stands = stand.look from number c id; ordered = in_order.look from number c id; new_answers = new.look from number c id });
+      polled = λ polls each. mine (polled_row polls row) (polled_after polls s) (polled_events polls s) [] (record { stands = stand.polled polls each; ordered = in_order.polled polls; new_answers = new.polled polls });
+      publish = λ from o polls owns there fit. mine (publish_row o polls row s) (publish_after o polls row s) (publish_events from o polls row s) (publish_alerts from o polls row s) (record {
+        stands = steps.publish_stands me setup.workers setup.slots setup.first next true counts from o polls row h s owns fit base.keeps.stands;
+        ordered = order.publish_in_order me setup.workers setup.slots setup.first next from o polls row h s base.keeps.stands base.keeps.ordered;
+        new_answers = answers.publish_answers_new next from o polls row h s base.keeps.new_answers;
+      });
+    }
+
+    pub holds_steps : StepsHold row counts s
+    holds_steps = holding_laws.holds_kept row counts s base.keeps.stands.fits base.holds
+
+  -- ---- a theme over the parts of a step
+
+  -- what an incoming packet keeps: its sender is there, and its line keeps what a receiver counts on
+  abbrev pub IsRight : Incoming → Type 0
+  IsRight (TakesPacket from p) = (from < setup.workers) × IsLineTo setup.workers me p.line
+  IsRight incoming = Unit {0}
+
+  module _ (P : OwnerFact) (theme : IsOwnerTheme setup me P) where
+    -- an owner at which steps may begin, and its theme
+    pub record Themed (row : List (Slot Message)) (counts : List ℕ) (h : List Event) (s : OwnerAt) : Type 0 where
+      pub base : StepBase setup me row counts h s
+      pub fact : P row h s
+
+    aside_themed : (row : List (Slot Message)) (counts : List ℕ) (h : List Event) (s : OwnerAt) (e : Event) → IsAside e → IsBy me e → Themed row counts h s → Themed row counts (e ∷ h) s
+    aside_themed row counts h s e p by t = record {
+      base = record { keeps = aside_keeps row h s e p by t.base.keeps; holds = t.base.holds };
+      fact = (theme.step (λ v. 0) row counts h s t.base t.fact).aside e p by;
+    }
+
+    pub told_themed : (row : List (Slot Message)) (counts : List ℕ) (s : OwnerAt) (next : ℕ → ℕ) (deeds : List Deed) (h : List Event) → AreDeeds setup.workers me deeds → Themed row counts h s → Themed row counts (onto (told me next deeds) h) s
+    told_themed row counts s next [] h d t = t
+    told_themed row counts s next (Does e ∷ deeds) h d t = told_themed row counts s next deeds (e ∷ h) d.1 (aside_themed row counts h s e (aside_worker me e d.0) (by_worker me e d.0) t)
+    told_themed row counts s next (Makes to a ∷ deeds) h d t = told_themed row counts s (numbered next to) deeds (Made me to (next to) a ∷ h) d.1 (aside_themed row counts h s (Made me to (next to) a) (plain_asked setup.workers to a d.0) (eqb_self me) t)
+
+    module _ (next : ℕ → ℕ) (h : List Event) (s : Holding) (t : Themed s.row s.counts h s.owner) where
+      abbrev After : Owned → Type 0
+      After o = Themed o.after.row o.after.counts (onto (woven me next o) h) o.after.owner
+
+      kept : StepsKeep setup me KeepsFact next s.row s.counts h s.owner
+      kept = keeps_steps next s.row s.counts h s.owner t.base
+
+      held : StepsHold s.row s.counts s.owner
+      held = holds_steps next s.row s.counts h s.owner t.base
+
+      facts : StepsKeep setup me P next s.row s.counts h s.owner
+      facts = theme.step next s.row s.counts h s.owner t.base t.fact
+
+      line_themed : (from : ℕ) (line : AlertLine) → from < setup.workers → IsLineTo setup.workers me line → After (owned_by (line_polls line s) from line s)
+      line_themed from (lines.Publish r c len timeout ct body) there owns =
+          let o = order_of r c len timeout ct body in
+          let polls = told_polls s.counts o s.row s.owner in
+          let fit = told_are_polls s.row s.counts s.owner o t.base.holds in
+          record { base = record { keeps = kept.publish from o polls owns.0 there fit; holds = held.publish o polls fit }; fact = facts.publish from o polls owns.0 there fit }
+      line_themed from (lines.Look number c after fence) there owns = record { base = record { keeps = kept.look from number c after owns there; holds = held.look from c after }; fact = facts.look from number c after owns there }
+      line_themed from (lines.Join c k) there owns = record { base = record { keeps = kept.join (member_of from k) c owns there; holds = held.touch c }; fact = facts.join (member_of from k) c owns there }
+      line_themed from (lines.Part c k) there owns = record { base = record { keeps = kept.part (member_of from k) c owns there; holds = held.touch c }; fact = facts.part (member_of from k) c owns there }
+      line_themed from (lines.Info r c) there owns = record { base = record { keeps = kept.info from r c owns there; holds = held.touch c }; fact = facts.info from r c owns there }
+      line_themed from (lines.PubAnswer r status info full) there owns = t
+      line_themed from (lines.LookAnswer number q floor found g slot) there owns = t
+      line_themed from (lines.Notice c id g slot) there owns = t
+      line_themed from (lines.Edge number k c fence) there owns = t
+      line_themed from (lines.EdgeAnswer number q floor last) there owns = t
+      line_themed from (lines.Delete r c) there owns = t
+      line_themed from (lines.DelAnswer r status info) there owns = t
+      line_themed from (lines.Gone c subs) there owns = t
+      line_themed from (lines.InfoAnswer r status info) there owns = t
+
+    -- ---- a reap
+
+    abbrev SweptThemed : List ℕ → List Event → Swept → Type 0
+    SweptThemed counts h x = Themed x.row counts (onto x.events h) x.owner
+
+    -- events that make nothing, put behind others
+    behind : (next : ℕ → ℕ) (row : List (Slot Message)) (counts : List ℕ) (h events more : List Event) (s : OwnerAt) → Themed row counts (onto (weave me next more []) (onto events h)) s → Themed row counts (onto (events ++ more) h) s
+    behind next row counts h events more s t = subst (λ (l : List Event). Themed row counts l s) ((λ i. onto (weave_nothing me next more i) (onto events h)) ∙ sym (onto_append events more h)) t
+
+    sweep_themed : (next : ℕ → ℕ) (counts : List ℕ) (h : List Event) (x : Swept) (c : List ℕ) → SweptThemed counts h x → SweptThemed counts h (swept x c)
+    sweep_themed next counts h x c t =
+        behind next (touched_row c x.row x.owner) counts h x.events (touch_events_of c x.row x.owner) (touch_after c x.row x.owner) (record {
+          base = record { keeps = (keeps_steps next x.row counts (onto x.events h) x.owner t.base).sweep c; holds = (holds_steps next x.row counts (onto x.events h) x.owner t.base).touch c };
+          fact = (theme.step next x.row counts (onto x.events h) x.owner t.base t.fact).sweep c;
+        })
+
+    sweeps_themed : (next : ℕ → ℕ) (counts : List ℕ) (h : List Event) (names : List (List ℕ)) (x : Swept) → SweptThemed counts h x → SweptThemed counts h (fold swept x names)
+    sweeps_themed next counts h [] x t = t
+    sweeps_themed next counts h (c ∷ names) x t = sweeps_themed next counts h names (swept x c) (sweep_themed next counts h x c t)
+
+    reap_themed : (next : ℕ → ℕ) (h : List Event) (s : Holding) → Themed s.row s.counts h s.owner
+        → (let o = owned Reaps s in Themed o.after.row o.after.counts (onto (woven me next o) h) o.after.owner)
+    reap_themed next h s t =
+        let x = swept_all s.row s.owner in
+        let polls = told_answers s.counts x.owner.desk.retired in
+        let z = sweeps_themed next s.counts h (names_of s.owner) (state s.owner s.row []) t in
+        let each = slots_told s.counts x.owner.desk.retired in
+        let last = behind next (polled_row polls x.row) s.counts h x.events (polled_events polls x.owner) (polled_after polls x.owner) (record {
+          base = record { keeps = (keeps_steps next x.row s.counts (onto x.events h) x.owner z.base).polled polls each; holds = (holds_steps next x.row s.counts (onto x.events h) x.owner z.base).polled };
+          fact = (theme.step next x.row s.counts (onto x.events h) x.owner z.base z.fact).polled polls each;
+        }) in
+        let here = is_me me setup.workers setup.slots setup.first s.row h s.owner t.base.keeps.stands in
+        let there = is_me me setup.workers setup.slots setup.first x.row (onto x.events h) x.owner z.base.keeps.stands in
+        subst (λ (l : List Event). Themed (polled_row polls x.row) s.counts l (polled_after polls x.owner))
+        (ap (λ (v : ℕ). onto (x.events ++ freed_events v polls) h) (there ∙ sym here) ∙ ap (λ (l : List Event). onto l h) (sym (weave_nothing me next (x.events ++ freed_events s.owner.desk.me polls)))) last
+
+    -- ---- what opens a step, and the owner's part
+
+    pub part_themed : (incoming : Incoming) (next : ℕ → ℕ) (d : Desk) (h : List Event) (s : Holding) → IsRight incoming → Themed s.row s.counts h s.owner
+        → (let o = owned incoming s in Themed o.after.row o.after.counts (onto (woven me next o) (onto (opening setup me incoming d) h)) o.after.owner)
+    part_themed (TakesPacket from p) next d h s right t = line_themed next _ s (aside_themed s.row s.counts h s.owner _ tt (eqb_self me) t) from p.line right.0 right.1
+    part_themed (ClockReads now) next d h s right t = record {
+      base = record { keeps = (keeps_steps next s.row s.counts h s.owner t.base).clock now; holds = t.base.holds };
+      fact = (theme.step next s.row s.counts h s.owner t.base t.fact).clock now;
+    }
+    part_themed Reaps next d h s right t = reap_themed next h s t
+    part_themed (Posts c body) next d h s right t = aside_themed s.row s.counts h s.owner _ tt (eqb_self me) t
+    part_themed (Subscribes k list start) next d h s right t = aside_themed s.row s.counts h s.owner _ tt (eqb_self me) t
+    part_themed (Informs c) next d h s right t = aside_themed s.row s.counts h s.owner _ tt (eqb_self me) t
