@@ -1,0 +1,2 @@
+pub mod FromTurn
+pub mod GoesOn
