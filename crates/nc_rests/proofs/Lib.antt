@@ -1,0 +1,16 @@
+pub mod Histories
+pub mod Received
+pub mod Rests
+pub mod Answered
+pub mod Looked
+pub mod Heard
+pub mod Notices
+pub mod Asks
+pub mod Lists
+pub mod Stamps
+pub mod Locals
+pub mod Whole
+pub mod OwnerShows
+pub mod Places
+pub mod Awaited
+pub mod Spools

@@ -1,0 +1,11 @@
+pub mod Came
+pub mod Rests
+pub mod Keeping
+pub mod Asking
+pub mod Answering
+pub mod Telling
+pub mod Owners
+pub mod Standing
+pub mod Places
+pub mod Awaiting
+pub mod Spools
