@@ -1,0 +1,7 @@
+pub mod Behind
+pub mod Edges
+pub mod Newest
+pub mod Starts
+pub mod Drawn
+pub mod Known
+pub mod Asked
