@@ -1,0 +1,4 @@
+pub mod Sent
+pub mod Fares
+pub mod Exact
+pub mod Carried
