@@ -1,0 +1,5 @@
+use Rattle.nc_world_owners.proofs.ReachedOwners.{histories_are_posted}
+use Rattle.nc_world_owners.proofs.histories.histories_are_posted.Goals as goal
+
+pub returns : goal.returns
+returns c = histories_are_posted

@@ -1,0 +1,4 @@
+pub mod ByOwner
+pub mod Grants
+pub mod LocalLaws
+pub mod WholeLaws
