@@ -1,0 +1,3 @@
+pub mod Frames
+pub mod Metas
+pub mod Texts

@@ -1,0 +1,5 @@
+pub mod Frame
+pub mod Laws
+pub mod Meta
+pub mod Opcode
+pub mod Reading
