@@ -1,0 +1,5 @@
+pub mod Scans
+pub mod Continued
+mod Requests
+mod Lines
+mod Lengths

@@ -1,0 +1,4 @@
+pub mod Ends
+pub mod Heads
+pub mod Framing
+pub mod Covered
