@@ -1,1 +1,5 @@
 pub mod Serving
+pub mod Granting
+pub mod Balancing
+pub mod Wholeness
+pub mod Holding

@@ -17,12 +17,11 @@ use Rattle.nc_spool_state.specs.Kept.{is_idle, place_of_grant}
 use Rattle.nc_spool.specs.declared.fact.Fact.{Fact}
 use Rattle.nc_spool.specs.declared.fact.Fact.TheVariants as facts
 use Rattle.nc_spool.specs.Calls.{SpoolsAt, arrive_facts, answer_facts, edge_facts, notice_facts, gone_facts}
-use Rattle.nc_history.specs.Packets.{Packet}
 use Rattle.nc_worker_state.specs.Setup.{Setup}
 use Rattle.nc_worker_state.specs.Incoming.{Incoming, TakesPacket, ClockReads, Reaps, Posts, Subscribes, Informs}
 use Rattle.nc_worker_state.specs.Deed.{Deed, Does, Makes, told}
-use Rattle.nc_worker_state.specs.Spooled.{Hold, fact_deed, facts_deeds, found_in, found_by, release, releases, without_idles}
-use Rattle.nc_worker_state.specs.Desk.{Desk, Served, is_waiting, without, replied, handled, begun, settled, served}
+use Rattle.nc_worker_state.specs.Spooled.{Hold, fact_deed, facts_deeds, found_in, found_by, release}
+use Rattle.nc_worker_state.specs.Desk.{Desk, Served, is_waiting, replied, handled, begun, settled}
 use Rattle.nc_world_holds.specs.Balance.{IsWholeLine, IsWholeAnswer, IsWholeIncoming, one_if, released_by, carries, carries_by, kept_by, brought, ServedBalances}
 
 either : {X : Type 0} (P : X → Type 0) (b : Bool) (x y : X) → P x → P y → P (cond b x y)
@@ -99,7 +98,7 @@ module _ (test : ℕ → ℕ → Bool) (o me : ℕ) where
   settled_balances n next d r l g = omega (arith, then_releases next r.deeds (filter (is_idle r.after.spools.shelf) r.after.spools.kept) l g.unreleased, split_kept (is_idle r.after.spools.shelf) r.after.spools.kept, g.kept)
 
   none_gained : (d : Desk) (r : Served) → AreUnreleased r.deeds → r.after.spools.kept ≡ d.spools.kept → Gains 0 d r
-  none_gained d r u same = record { unreleased = u; kept = ap Kept same }
+  none_gained d r u same = record { unreleased = u; kept = omega (arith, ap Kept same) }
 
   replied_gains : (r status : ℕ) (info : Option Info) (d : Desk) → Gains 0 d (replied me r status info d)
   replied_gains r status info d = either (Gains 0 d) (is_waiting r d.waiting) _ _ (none_gained d _ (tt, tt) refl) (none_gained d _ tt refl)

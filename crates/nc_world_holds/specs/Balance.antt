@@ -1,5 +1,6 @@
 -- Holds between an owner and a worker: what was granted is released, on its way, or kept.
 use Rattle.std.specs.Prelude.{◌≡◌, ℕ, ◌+◌, Bool, List, [], ◌∷◌, if◌then◌else◌, ◌==◌, ◌&&◌, Option, None, Some}
+use Rattle.std.specs.List.{AllByRecursion}
 use Rattle.nc_types.specs.Id.{Id}
 use Rattle.nc_journal.specs.History.{onto}
 use Rattle.nc_journal.specs.declared.event.Event.{Event}
@@ -7,13 +8,14 @@ use Rattle.nc_journal.specs.declared.event.Event.TheVariants.{Granted, Released}
 use Rattle.nc_journal.specs.declared.alert.AlertLine.{AlertLine}
 use Rattle.nc_journal.specs.declared.alert.AlertLine.TheVariants as lines
 use Rattle.nc_spool_state.specs.declared.kept.Held.{Held}
-use Rattle.nc_history.specs.Packets.{lines_of, pending}
+use Rattle.nc_history.specs.Packets.{Packet, lines_of, pending}
 use Rattle.nc_worker_state.specs.Setup.{Setup}
 use Rattle.nc_worker_state.specs.Incoming.{Incoming, TakesPacket}
 use Rattle.nc_worker_state.specs.Spooled.{Hold}
 use Rattle.nc_worker_state.specs.Deed.{told}
 use Rattle.nc_worker_state.specs.Desk.{Desk, served}
 use Rattle.nc_world.specs.World.{World}
+use Rattle.nc_world.specs.Reached.{Reached, IsSetup}
 
 -- an answer that brings a message brings its grant and slot too, and one that doesn't brings none
 abbrev pub IsWholeAnswer : Option Id → Option ℕ → Option ℕ → Type 0
@@ -24,6 +26,9 @@ IsWholeAnswer found g slot = ⊥
 abbrev pub IsWholeLine : AlertLine → Type 0
 IsWholeLine (lines.LookAnswer number q floor found g slot) = IsWholeAnswer found g slot
 IsWholeLine line = Unit {0}
+
+abbrev pub AreWhole : List Packet → Type 0
+AreWhole ps = AllByRecursion (λ p. IsWholeLine p.line) ps
 
 abbrev pub IsWholeIncoming : Incoming → Type 0
 IsWholeIncoming (TakesPacket from p) = IsWholeLine p.line
@@ -78,3 +83,11 @@ abbrev pub ServedBalances : Type 0
 ServedBalances = (test : ℕ → ℕ → Bool) (setup : Setup) (o me : ℕ) (incoming : Incoming) (next : ℕ → ℕ) (d : Desk) (h : List Event) → IsWholeIncoming incoming
     → released_by test o me (onto (told me next (served setup me incoming d).deeds) h) + kept_by test o (served setup me incoming d).after.spools.kept
     ≡ released_by test o me h + brought test o incoming + kept_by test o d.spools.kept
+
+-- what holds of the holds in each reached world: they are balanced, and what is on its way is whole
+pub record HoldsKept (h : List Event) (world : World) : Type 0 where
+  pub balanced : IsBalanced h world
+  pub whole : (v w : ℕ) → AreWhole (pending v w h)
+
+abbrev pub ReachedHolds : Type 0
+ReachedHolds = (setup : Setup) (h : List Event) (world : World) → IsSetup setup → Reached setup h world → HoldsKept h world
