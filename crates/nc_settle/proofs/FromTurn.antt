@@ -13,7 +13,7 @@ up_more : (a n : ℕ) → up a (suc n) ≡ up a n ++ (n + a) ∷ []
 up_more a zero = ap (λ x. x ∷ []) (omega arith)
 up_more a (suc n) = ap (λ (l : List ℕ). a ∷ l) (up_more (suc a) n ∙ ap (λ x. up (suc a) n ++ x ∷ []) (omega arith))
 
-up_below : (n : ℕ) → up 0 n ≡ below n
+pub up_below : (n : ℕ) → up 0 n ≡ below n
 up_below zero = refl
 up_below (suc n) = up_more 0 n ∙ (λ i. up_below n i ++ plus n i ∷ [])
   where
