@@ -11,3 +11,5 @@ pub mod Taking
 pub mod Parts
 pub mod Moving
 pub mod Themes
+pub mod WorldThemes
+pub mod Frames

@@ -52,21 +52,28 @@ abbrev pub rest : Setup → ℕ → Incoming → World → List Event
 rest setup w incoming world = part w incoming world ++ behind setup w incoming world
 
 module _ (setup : Setup) (is : IsSetup setup) (w : ℕ) (incoming : Incoming) (h : List Event) (world : World) (g : Good setup h world) where
+  -- an owner has its worker's number
   me : (world.workers w).owner.desk.me ≡ w
   me = is_me w setup.workers setup.slots setup.first (world.rows w) (own w h) (world.workers w).owner (g.keeps w).stands
 
-  of : AllByRecursion (IsOfOwner w) (owns w incoming world).events
+  -- its events are its own, and the deeds are the worker's or ask owners
+  pub of : AllByRecursion (IsOfOwner w) (owns w incoming world).events
   of = of_owned w (polls_of w incoming world) incoming (holding w (seat w world)) me
 
-  well : AreDeeds setup.workers w (serves setup w incoming world).deeds
+  pub well : AreDeeds setup.workers w (serves setup w incoming world).deeds
   well = (served_well setup is w incoming (world.workers w).desk (g.knows w)).0
+
+  -- what holds of what an owner does, and of what is made, holds of the owner's part
+  pub part_all : (P : Event → Type 0) → ((e : Event) → IsOfOwner w e → P e) → ((to n : ℕ) (a : AlertLine) → P (Made w to n a)) → AllByRecursion P (part w incoming world)
+  part_all P a m = woven_all P w (world.workers w).next m (owns w incoming world).events (owns w incoming world).alerts (all_of (IsOfOwner w) P a (owns w incoming world).events of)
+
+  -- and what holds of what a worker does beside it, and of what is made, holds of the rest
+  pub behind_all : (P : Event → Type 0) → ((e : Event) → IsOfWorker w e → P e) → ((to n : ℕ) (a : AlertLine) → P (Made w to n a)) → AllByRecursion P (behind setup w incoming world)
+  behind_all P b m = told_all P w _ m (serves setup w incoming world).deeds (deeds_do setup.workers w P b (serves setup w incoming world).deeds well)
 
   -- what holds of what an owner and a worker do, and of what is made, holds of these events
   pub rest_all : (P : Event → Type 0) → ((e : Event) → IsOfOwner w e → P e) → ((e : Event) → IsOfWorker w e → P e) → ((to n : ℕ) (a : AlertLine) → P (Made w to n a)) → AllByRecursion P (rest setup w incoming world)
-  rest_all P a b m =
-      all_append P (part w incoming world) _
-      (woven_all P w (world.workers w).next m (owns w incoming world).events (owns w incoming world).alerts (all_of (IsOfOwner w) P a (owns w incoming world).events of))
-      (told_all P w _ m (serves setup w incoming world).deeds (deeds_do setup.workers w P b (serves setup w incoming world).deeds well))
+  rest_all P a b m = all_append P (part w incoming world) (behind setup w incoming world) (part_all P a m) (behind_all P b m)
 
   -- the same where it holds of those alerts alone that are rightly made
   pub rest_made : (P : Event → Type 0) → ((e : Event) → IsOfOwner w e → P e) → ((e : Event) → IsOfWorker w e → P e) → ((to n : ℕ) (a : AlertLine) → IsLineTo setup.workers to a → P (Made w to n a)) → AllByRecursion P (rest setup w incoming world)
@@ -105,9 +112,9 @@ module _ (setup : Setup) (is : IsSetup setup) (w : ℕ) (incoming : Incoming) (h
   -- the events of a step are the worker's own
   pub step_by : AllByRecursion (IsBy w) (handled_events setup w incoming world)
   step_by =
-      all_append (IsBy w) (before setup w incoming world ++ part w incoming world) _
-      (all_append (IsBy w) (before setup w incoming world) (part w incoming world) opening_by (woven_all (IsBy w) w (world.workers w).next (λ to n a. eqb_self w) (owns w incoming world).events (owns w incoming world).alerts (all_of (IsOfOwner w) (IsBy w) (by_owner w) (owns w incoming world).events of)))
-      (told_all (IsBy w) w _ (λ to n a. eqb_self w) (serves setup w incoming world).deeds (deeds_do setup.workers w (IsBy w) (by_worker w) (serves setup w incoming world).deeds well))
+      all_append (IsBy w) (before setup w incoming world ++ part w incoming world) (behind setup w incoming world)
+      (all_append (IsBy w) (before setup w incoming world) (part w incoming world) opening_by (part_all (IsBy w) (by_owner w) (λ to n a. eqb_self w)))
+      (behind_all (IsBy w) (by_worker w) (λ to n a. eqb_self w))
 
   -- a theme of the owner over the step
   pub step_themed : (P : OwnerFact) (theme : IsOwnerTheme setup w P) → IsRight setup w incoming → P (world.rows w) (own w h) (world.workers w).owner

@@ -1,4 +1,5 @@
 pub mod Kinds
 pub mod Good
+pub mod WorldTheme
 pub mod OwnerTheme
 pub mod Laws
