@@ -1,14 +1,14 @@
 -- Cursors rise, and what was sent stays behind them.
+use Rattle.std.proofs.Common.{◌≡◌, ◌≢◌, ◌⊎◌, inl, inr, ℕ, ◌<◌, ℤ, false, List, ◌∷◌, length, slice_get, Some, sym, ap, ◌∙◌, subst, arith}
 use Rattle.std.specs.Prelude.{◌==◌}
-use Rattle.std.proofs.Common.{◌≡◌, inl, inr, ℕ, ◌<◌, false, List, ◌∷◌, sym, ap, ◌∙◌, subst, arith, Some, slice_get, ◌≢◌, ◌⊎◌, ℤ, length}
 use Rattle.std.proofs.lemmas.Bool.{cases_eq}
 use Rattle.std.proofs.lemmas.Int.{ints}
 use Rattle.nc_types.specs.Id.{Id, IsPast}
 use Rattle.nc_types.specs.Cursor.{moved, CursorAt, cursor_id}
 use Rattle.nc_types.specs.Channel.{AreDistinct}
-use Rattle.nc_journal.specs.declared.event.Event.{Event}
 use Rattle.nc_journal.specs.History.{own}
 use Rattle.nc_journal.specs.Standing.{stage_of}
+use Rattle.nc_journal.specs.declared.event.Event.{Event}
 use Rattle.nc_journal.specs.declared.event.Event.TheVariants.{Sent}
 use Rattle.nc_journal.proofs.Ids.{IsAtMost, at_most-refl, at_most-trans, at_most_of_past}
 use Rattle.nc_rests.proofs.Lists.{at_within, distinct_at}

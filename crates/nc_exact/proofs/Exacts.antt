@@ -1,18 +1,19 @@
 -- Nothing is lost, and nothing comes twice.
+use Rattle.std.proofs.Common.{◌≡◌, inl, inr, ℕ, Bool, true, false, cond, List, [], ◌∷◌, ◌++◌, slice_get, Some, refl, sym, subst, arith}
 use Rattle.std.specs.List.{AllByRecursion}
-use Rattle.std.proofs.Common.{◌≡◌, inl, inr, ℕ, Bool, true, false, cond, List, [], ◌∷◌, ◌++◌, refl, sym, subst, arith, Some, slice_get, append_assoc}
 use Rattle.std.proofs.lemmas.Bool.{eq-eqb}
 use Rattle.std.proofs.lemmas.Int.{ints}
 use Rattle.nc_types.specs.Id.{Id, IsPast, is_past}
 use Rattle.nc_types.specs.Cursor.{CursorAt, cursor_id}
-use Rattle.nc_journal.specs.declared.event.Event.{Event}
-use Rattle.nc_journal.specs.Sending.{IsSentLawfully, SentFrom, RestsOnLook, IsSentFrom}
 use Rattle.nc_journal.specs.History.{own}
 use Rattle.nc_journal.specs.Message.{Message, published}
+use Rattle.nc_journal.specs.Sending.{IsSentLawfully, SentFrom, RestsOnLook, IsSentFrom}
+use Rattle.nc_journal.specs.declared.event.Event.{Event}
 use Rattle.nc_journal.specs.declared.event.Event.TheVariants.{Started, Sent}
 use Rattle.nc_journal.proofs.Cuts.{all-weaker, all-both}
 use Rattle.nc_journal.proofs.Ids.{IsAtMost, past_of_test, not_past_of_test}
 use Rattle.nc_rests.proofs.Lists.{at_length}
+use Rattle.nc_sends.proofs.Later.{push_cut}
 use Rattle.nc_exact.specs.Exact.{ExactLaw}
 use Rattle.nc_exact.specs.Fares.{GoneAt, Fares, Ahead, Before, WasSentIt, WasGoneThen}
 use Rattle.nc_exact.specs.Sent.{WasSent}
@@ -37,13 +38,10 @@ fare_start workers w k older a list cur fits once start stage newer lawful j c a
     each [] = tt
     each (m ∷ ms) = (one m.id (is_past m.id (cursor_id cur j)) refl, each ms)
 
-push_one : (newer : List Event) (e : Event) (older : List Event) → (newer ++ e ∷ []) ++ older ≡ newer ++ e ∷ older
-push_one newer e older = append_assoc newer (e ∷ []) older
-
 fare_other : (workers w k : ℕ) → Meanwhile w k (AllFare workers w k)
 fare_other workers w k e older list first cur other q newer lawful j c at =
     all-weaker (λ m. Fares workers w k j c first cur older m.id) (λ m. Fares workers w k j c first cur (e ∷ older) m.id) (λ m f. fares_more workers w k j c first cur e older m.id f) (published c (newer ++ e ∷ older))
-    (subst (λ (l : List Event). AllByRecursion (λ m. Fares workers w k j c first cur older m.id) (published c l)) (push_one newer e older) (q (newer ++ e ∷ []) (subst (IsSentLawfully workers) (sym (push_one newer e older)) lawful) j c at))
+    (subst (λ (l : List Event). AllByRecursion (λ m. Fares workers w k j c first cur older m.id) (published c l)) (push_cut newer e older) (q (newer ++ e ∷ []) (subst (IsSentLawfully workers) (sym (push_cut newer e older)) lawful) j c at))
 
 -- it was sent now
 sent_now : (w k i : ℕ) (c d : List ℕ) (id m : Id) (cur : CursorAt) (looks : List ℕ) (older : List Event) → d ≡ c → m ≡ id → WasSent k d m (own w (Sent w k i c id cur looks ∷ older))
@@ -70,7 +68,7 @@ fare_send workers w k older list once first old i c id cur looks stage move q ne
     let r = s.rests j d n.0 at_j n.1 in
     all-both (λ m. Fares workers w k j d first old older m.id) (IsSettled c id d (cursor_id old j) (cursor_id cur j) r.seen) (λ m. Fares workers w k j d first cur (e ∷ older) m.id)
     (fare_next workers w k i j n.0 c id cur looks d first old newer older n.1 r) (published d (newer ++ e ∷ older))
-    (subst (λ (l : List Event). AllByRecursion (λ m. Fares workers w k j d first old older m.id) (published d l)) (push_one newer e older) (q (newer ++ e ∷ []) (subst (IsSentLawfully workers) (sym (push_one newer e older)) lawful) j d at_j))
+    (subst (λ (l : List Event). AllByRecursion (λ m. Fares workers w k j d first old older m.id) (published d l)) (push_cut newer e older) (q (newer ++ e ∷ []) (subst (IsSentLawfully workers) (sym (push_cut newer e older)) lawful) j d at_j))
     (settled workers w n.0 k i c id cur looks d (cursor_id old j) (cursor_id cur j) newer older r)
 
 pub resumes_exactly : ExactLaw

@@ -1,6 +1,6 @@
 -- What holds at each event of a history in which all is sent lawfully.
+use Rattle.std.proofs.Common.{◌≡◌, ℕ, negsuc, Bool, true, false, List, [], ◌∷◌, ◌++◌, length, slice_get, Some, refl, ap, ◌∙◌}
 use Rattle.std.specs.Prelude.{◌==◌}
-use Rattle.std.proofs.Common.{◌≡◌, ℕ, Bool, true, false, List, [], ◌∷◌, ◌++◌, refl, ap, ◌∙◌, Some, slice_get, length, negsuc}
 use Rattle.std.proofs.lemmas.Bool.{cond_both}
 use Rattle.std.proofs.lemmas.List.{length-map}
 use Rattle.nc_types.specs.declared.start.Start.TheVariants.{Newest, Oldest, Given}
@@ -8,10 +8,10 @@ use Rattle.nc_types.specs.Id.{Id, IsPast}
 use Rattle.nc_types.specs.Cursor.{moved, CursorAt, cursor_id}
 use Rattle.nc_types.specs.Channel.{AreDistinct}
 use Rattle.nc_types.specs.declared.start.Start.{Start}
-use Rattle.nc_journal.specs.Standing.{SubscribesAt, StartFits, Stage, Starting, Standing, Over, started, served, is_once, stage_of, OrderedAt}
 use Rattle.nc_journal.specs.History.{Along, own, is_by}
-use Rattle.nc_journal.specs.declared.event.Event.{Event}
+use Rattle.nc_journal.specs.Standing.{SubscribesAt, StartFits, Stage, Starting, Standing, Over, started, served, is_once, stage_of, OrderedAt}
 use Rattle.nc_journal.specs.Sending.{SentFrom, SentAt}
+use Rattle.nc_journal.specs.declared.event.Event.{Event}
 use Rattle.nc_journal.specs.declared.event.Event.TheVariants.{Subscribed, Started, Sent, Ended}
 use Rattle.nc_starts.specs.Newest.{greatest_time, tag_within}
 use Rattle.nc_starts.specs.Starts.{StartsWhere, StartedIn}

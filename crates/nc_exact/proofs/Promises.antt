@@ -1,8 +1,8 @@
 -- What is carried promises what a user relies on.
 use Rattle.std.proofs.Common.{List, [], ◌∷◌, subst}
 use Rattle.nc_journal.specs.History.{Along}
-use Rattle.nc_journal.specs.declared.event.Event.{Event}
 use Rattle.nc_journal.specs.Sending.{IsSentLawfully}
+use Rattle.nc_journal.specs.declared.event.Event.{Event}
 use Rattle.nc_sends.specs.Fences.{FencedAt}
 use Rattle.nc_sends.specs.GoodSends.{IsGoodSend}
 use Rattle.nc_sends.specs.Stays.{SentThen}

@@ -1,12 +1,12 @@
 -- What was sent, as the history goes on.
-use Rattle.std.specs.Prelude.{◌==◌, ◌&&◌}
 use Rattle.std.proofs.Common.{◌≡◌, inr, ℕ, Bool, true, false, cond, List, [], ◌∷◌, refl, sym, ap, ◌∙◌, subst, true≢false}
+use Rattle.std.specs.Prelude.{◌&&◌, ◌==◌}
 use Rattle.std.proofs.lemmas.Bool.{eq-eqb, eqb-true, cond_both}
 use Rattle.nc_types.specs.Id.{Id}
 use Rattle.nc_types.specs.Cursor.{CursorAt}
-use Rattle.nc_journal.specs.declared.event.Event.{Event}
 use Rattle.nc_journal.specs.History.{own, is_by}
 use Rattle.nc_journal.specs.Standing.{Stage, Absent, Starting, Standing, Served, Over, started, served, is_once, stage_of}
+use Rattle.nc_journal.specs.declared.event.Event.{Event}
 use Rattle.nc_journal.specs.declared.event.Event.TheVariants.{Subscribed, Started, Sent, Ended}
 use Rattle.nc_exact.specs.Fares.{WasGone, Fares, Ahead, Before, WasSentIt, WasGoneThen}
 use Rattle.nc_exact.specs.Sent.{WasSent, EachSent}

@@ -1,14 +1,14 @@
 -- Each message of a channel was passed over for a reason by a sent, or was gone at its look.
+use Rattle.std.proofs.Common.{◌≡◌, ◌⊎◌, inl, inr, ℕ, Bool, true, false, cond, not, List, [], ◌∷◌, ◌++◌, filter, refl, sym, ap, ◌∙◌, subst, true≢false}
 use Rattle.std.specs.List.{AllByRecursion}
-use Rattle.std.proofs.Common.{◌≡◌, inl, inr, ℕ, Bool, true, false, cond, List, [], ◌∷◌, ◌++◌, refl, sym, ap, ◌∙◌, subst, true≢false, ◌⊎◌, not, filter}
 use Rattle.std.proofs.lemmas.List.{append-nil}
 use Rattle.nc_types.specs.Id.{Id}
 use Rattle.nc_types.specs.Cursor.{CursorAt}
 use Rattle.nc_types.specs.Channel.{owner_of}
-use Rattle.nc_journal.specs.declared.event.Event.{Event}
-use Rattle.nc_journal.specs.declared.event.Event.TheVariants.{Looked, Sent}
 use Rattle.nc_journal.specs.Message.{Message, published, is_gone}
 use Rattle.nc_journal.specs.Sending.{IsSpared, IsLook, RestsOnLook}
+use Rattle.nc_journal.specs.declared.event.Event.{Event}
+use Rattle.nc_journal.specs.declared.event.Event.TheVariants.{Looked, Sent}
 use Rattle.nc_journal.proofs.Cuts.{all-weaker, all-append, all-left, all-right}
 use Rattle.nc_journal.proofs.Buffers.{published-push, published-append}
 

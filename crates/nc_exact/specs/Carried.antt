@@ -2,9 +2,9 @@
 use Rattle.std.specs.Prelude.{◌≡◌, ℕ, List, ◌++◌}
 use Rattle.nc_types.specs.Cursor.{CursorAt}
 use Rattle.nc_journal.specs.History.{Along, own, AtEachCut}
-use Rattle.nc_journal.specs.declared.event.Event.{Event}
 use Rattle.nc_journal.specs.Standing.{stage_of, IsStandingRule}
 use Rattle.nc_journal.specs.Sending.{IsSentLawfully}
+use Rattle.nc_journal.specs.declared.event.Event.{Event}
 use Rattle.nc_rests.specs.Owners.{Owners}
 use Rattle.nc_sends.specs.Fences.{FencedSince}
 use Rattle.nc_sends.specs.GoodSends.{IsGoodSend}

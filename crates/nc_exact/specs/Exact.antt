@@ -2,9 +2,9 @@
 use Rattle.std.specs.Prelude.{◌≡◌, ℕ, List, ◌++◌, Some}
 use Rattle.nc_types.specs.Cursor.{CursorAt}
 use Rattle.nc_journal.specs.History.{Along, own}
-use Rattle.nc_journal.specs.declared.event.Event.{Event}
 use Rattle.nc_journal.specs.Standing.{stage_of, IsStandingRule}
 use Rattle.nc_journal.specs.Sending.{IsSentLawfully}
+use Rattle.nc_journal.specs.declared.event.Event.{Event}
 use Rattle.nc_starts.specs.Starts.{AreStartedLawfully}
 use Rattle.nc_exact.specs.Fares.{IsExact}
 use Rattle.nc_exact.specs.Sent.{first_cursor, StandsAt, RisesFor}

@@ -1,11 +1,11 @@
 -- What a subscriber was sent, and how far it has come.
-use Rattle.std.specs.Prelude.{◌≡◌, ◌⊎◌, ℕ, List, [], ◌∷◌, Option, None, Some, if◌then◌else◌, ◌==◌}
+use Rattle.std.specs.Prelude.{◌≡◌, ◌⊎◌, ℕ, if◌then◌else◌, ◌==◌, List, [], ◌∷◌, Option, None, Some}
 use Rattle.nc_types.specs.Id.{Id, IsPast}
 use Rattle.nc_types.specs.Cursor.{CursorAt}
-use Rattle.nc_journal.specs.declared.event.Event.{Event}
 use Rattle.nc_journal.specs.History.{own}
 use Rattle.nc_journal.specs.Standing.{Standing, Stage, Served}
-use Rattle.nc_journal.specs.declared.event.Event.TheVariants.{Sent, Started}
+use Rattle.nc_journal.specs.declared.event.Event.{Event}
+use Rattle.nc_journal.specs.declared.event.Event.TheVariants.{Started, Sent}
 
 -- where subscriber k started, by the local history of its worker
 abbrev pub first_cursor : ℕ → List Event → Option CursorAt

@@ -1,16 +1,16 @@
 -- The answer to a look that a worker takes next, and how a place rests by it.
+use Rattle.std.proofs.Common.{◌≡◌, inl, inr, ℕ, Bool, true, false, cond, List, [], ◌∷◌, ◌++◌, Option, None, Some, refl, sym, ap, ◌∙◌, subst}
 use Rattle.std.specs.Prelude.{◌==◌}
 use Rattle.std.specs.List.{AllByRecursion}
-use Rattle.std.proofs.Common.{◌≡◌, inl, inr, ℕ, Bool, true, false, cond, List, [], ◌∷◌, ◌++◌, Option, refl, sym, ap, ◌∙◌, subst, Some, None}
 use Rattle.std.proofs.lemmas.Bool.{eqb-true, cond_both}
 use Rattle.nc_types.specs.Id.{Id}
 use Rattle.nc_types.specs.Channel.{owner_of}
 use Rattle.nc_journal.specs.History.{Along, own, is_by}
 use Rattle.nc_journal.specs.declared.event.Event.{Event}
-use Rattle.nc_journal.specs.declared.event.Event.TheVariants.{Looked, Made, Took, Edged}
+use Rattle.nc_journal.specs.declared.event.Event.TheVariants.{Looked, Edged, Made, Took}
 use Rattle.nc_journal.specs.declared.alert.AlertLine.{AlertLine}
-use Rattle.nc_journal.proofs.Cuts.{all-weaker, all-append}
 use Rattle.nc_journal.specs.declared.alert.AlertLine.TheVariants as lines
+use Rattle.nc_journal.proofs.Cuts.{all-weaker, all-append}
 use Rattle.nc_owner_laws.specs.InOrder.{HasLook, HasEdge, AnswersLook, AnswersAt}
 use Rattle.nc_owner_laws.specs.Wake.{NotYet, Waiting, hears, made_to}
 use Rattle.nc_history.specs.Packets.{received}

@@ -1,15 +1,15 @@
 -- Looks that were asked for.
+use Rattle.std.proofs.Common.{◌≡◌, inl, inr, ℕ, ◌≤◌, List, [], ◌∷◌, refl, sym, ap, ◌∙◌, subst, arith}
 use Rattle.std.specs.Prelude.{◌==◌}
 use Rattle.std.specs.List.{AllByRecursion}
-use Rattle.std.proofs.Common.{◌≡◌, inl, inr, ℕ, ◌≤◌, List, [], ◌∷◌, refl, sym, ap, ◌∙◌, subst, arith}
 use Rattle.std.proofs.lemmas.Bool.{eq-eqb, cond_both}
 use Rattle.nc_types.specs.Id.{Id}
+use Rattle.nc_journal.specs.History.{own, is_by}
 use Rattle.nc_journal.specs.declared.event.Event.{Event}
 use Rattle.nc_journal.specs.declared.event.Event.TheVariants.{Looked, Made}
 use Rattle.nc_journal.specs.declared.alert.AlertLine.{AlertLine}
-use Rattle.nc_journal.specs.History.{own, is_by}
-use Rattle.nc_journal.proofs.Cuts.{all-weaker}
 use Rattle.nc_journal.specs.declared.alert.AlertLine.TheVariants as lines
+use Rattle.nc_journal.proofs.Cuts.{all-weaker}
 use Rattle.nc_owner_laws.specs.Used.{bit, times}
 use Rattle.nc_owner_laws.specs.Wake.{made_to}
 use Rattle.nc_rests.specs.Asking.{HasAsk, ask_numbers, AreAsked, AskedOnce, NextAsked, AsksStay}

@@ -1,6 +1,6 @@
 -- Elements of lists by their places.
+use Rattle.std.proofs.Common.{◌≡◌, ◌≢◌, ℕ, zero, suc, ◌<◌, List, [], ◌∷◌, length, slice_get, Some, refl, sym, ap, ◌∙◌, subst, arith}
 use Rattle.std.specs.List.{AllByRecursion}
-use Rattle.std.proofs.Common.{◌≡◌, ℕ, ◌<◌, List, [], ◌∷◌, refl, sym, ap, ◌∙◌, subst, arith, zero, suc, Some, slice_get, ◌≢◌, length}
 use Rattle.nc_types.specs.Channel.{AreDistinct}
 
 -- an element of a list that has a fact for each

@@ -1,12 +1,12 @@
 -- Each look stands once in its owner's history, and waits or was woken.
-use Rattle.std.specs.Prelude.{◌==◌, ◌&&◌}
-use Rattle.std.proofs.Common.{◌≡◌, ℕ, ◌+◌, ◌≤◌, Bool, true, false, cond, List, [], ◌∷◌, ◌++◌, refl, sym, ap, ◌∙◌, arith, Some, None, true≢false}
+use Rattle.std.proofs.Common.{◌≡◌, ℕ, ◌+◌, ◌≤◌, Bool, true, false, cond, List, [], ◌∷◌, ◌++◌, None, Some, refl, sym, ap, ◌∙◌, arith, true≢false}
+use Rattle.std.specs.Prelude.{◌&&◌, ◌==◌}
 use Rattle.std.proofs.lemmas.Bool.{eq-eqb}
 use Rattle.std.proofs.lemmas.Cmp.{nat_list_eq_equiv}
 use Rattle.nc_types.specs.Id.{Id}
 use Rattle.nc_types.specs.Channel.{name_eq}
 use Rattle.nc_journal.specs.declared.event.Event.{Event}
-use Rattle.nc_journal.specs.declared.event.Event.TheVariants.{Looked, Stored, Removed, Edged}
+use Rattle.nc_journal.specs.declared.event.Event.TheVariants.{Stored, Looked, Edged, Removed}
 use Rattle.nc_owner_laws.specs.Drawn.{look_numbers}
 use Rattle.nc_owner_laws.specs.OwnerStanding.{look_past}
 use Rattle.nc_owner_laws.specs.Used.{bit, times}

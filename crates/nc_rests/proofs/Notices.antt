@@ -1,14 +1,14 @@
 -- The first notice behind a look that found nothing, and the want of one.
+use Rattle.std.proofs.Common.{◌≡◌, inl, inr, ℕ, ◌+◌, ◌≤◌, cond, List, [], ◌∷◌, ◌++◌, drop, Option, None, Some, refl, sym, ap, ◌∙◌, subst, arith}
 use Rattle.std.specs.Prelude.{IfSome}
-use Rattle.std.proofs.Common.{◌≡◌, inl, inr, ℕ, ◌+◌, ◌≤◌, cond, List, [], ◌∷◌, ◌++◌, Option, refl, sym, ap, ◌∙◌, subst, arith, Some, None, drop}
 use Rattle.std.proofs.lemmas.List.{append-nil}
 use Rattle.nc_types.specs.Id.{Id, IsPast}
 use Rattle.nc_types.specs.Channel.{owner_of}
+use Rattle.nc_journal.specs.History.{own}
+use Rattle.nc_journal.specs.Message.{published, buffer}
 use Rattle.nc_journal.specs.declared.event.Event.{Event}
 use Rattle.nc_journal.specs.declared.event.Event.TheVariants.{Looked, Took}
 use Rattle.nc_journal.specs.declared.alert.AlertLine.{AlertLine}
-use Rattle.nc_journal.specs.History.{own}
-use Rattle.nc_journal.specs.Message.{published, buffer}
 use Rattle.nc_journal.specs.declared.alert.AlertLine.TheVariants as lines
 use Rattle.nc_owner_laws.specs.AnsweredOnce.{answer_numbers}
 use Rattle.nc_owner_laws.specs.Behind.{NothingIsPast, WokenByFirst}

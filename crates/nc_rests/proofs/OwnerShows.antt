@@ -1,17 +1,17 @@
 -- What an owner that stands for its local history tells and keeps.
+use Rattle.std.proofs.Common.{◌≡◌, ℕ, suc, ◌≤◌, Bool, true, false, cond, List, [], ◌∷◌, ◌++◌, length, refl, sym, ap, ◌∙◌, arith}
 use Rattle.std.specs.Prelude.{◌==◌}
 use Rattle.std.specs.List.{AllByRecursion}
 use Rattle.std.specs.Cmp.Lexicographic.{same_text}
-use Rattle.std.proofs.Common.{◌≡◌, ℕ, ◌≤◌, Bool, true, false, cond, List, [], ◌∷◌, ◌++◌, refl, sym, ap, ◌∙◌, arith, suc, length}
 use Rattle.std.proofs.lemmas.Bool.{eqb-true}
 use Rattle.nc_types.specs.Id.{Id}
 use Rattle.nc_types.specs.Channel.{owner_of, name_eq}
 use Rattle.nc_journal.specs.History.{Along, own, is_by}
-use Rattle.nc_journal.specs.declared.event.Event.{Event}
-use Rattle.nc_journal.specs.declared.event.Event.TheVariants.{Looked, Stored, Left, Edged}
-use Rattle.nc_journal.specs.Message.{published, message_of}
 use Rattle.nc_journal.specs.Stamp.{IsStamped}
+use Rattle.nc_journal.specs.Message.{published, message_of}
 use Rattle.nc_journal.specs.Sending.{HasId}
+use Rattle.nc_journal.specs.declared.event.Event.{Event}
+use Rattle.nc_journal.specs.declared.event.Event.TheVariants.{Stored, Left, Looked, Edged}
 use Rattle.nc_owner_laws.specs.Buffered.{LeavesStored}
 use Rattle.nc_owner_laws.proofs.AnsweredOnce.{answered_once}
 use Rattle.nc_owner_laws.proofs.Behind.{notice_is_first}

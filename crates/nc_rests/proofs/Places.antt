@@ -1,19 +1,19 @@
 -- The places of spools, as the history goes on and by what they hear.
+use Rattle.std.proofs.Common.{◌≡◌, inl, ℕ, Bool, true, false, cond, List, ◌∷◌, Option, None, Some, refl, sym, ◌∙◌, subst, true≢false}
 use Rattle.std.specs.Prelude.{◌==◌}
 use Rattle.std.specs.Option.{option_map}
-use Rattle.std.proofs.Common.{◌≡◌, inl, ℕ, Bool, true, false, cond, List, ◌∷◌, Option, refl, sym, ◌∙◌, subst, Some, None, true≢false}
 use Rattle.std.proofs.lemmas.Bool.{eq-eqb, cond_both}
 use Rattle.nc_types.specs.Id.{Id, IsPast, is_past}
 use Rattle.nc_types.specs.Channel.{owner_of}
-use Rattle.nc_journal.specs.Message.{Message, first_past}
 use Rattle.nc_journal.specs.History.{Along, own}
+use Rattle.nc_journal.specs.Message.{Message, first_past}
 use Rattle.nc_journal.specs.declared.event.Event.{Event}
 use Rattle.nc_journal.specs.declared.event.Event.TheVariants.{Looked, Made, Took}
 use Rattle.nc_journal.specs.declared.alert.AlertLine.{AlertLine}
-use Rattle.nc_journal.proofs.Ids.{past_of_test, not_past_of_test}
-use Rattle.nc_journal.proofs.Buffers.{find-first}
 use Rattle.nc_journal.specs.declared.word.AlertKind.{AlertKind}
 use Rattle.nc_journal.specs.declared.alert.AlertLine.TheVariants as lines
+use Rattle.nc_journal.proofs.Ids.{past_of_test, not_past_of_test}
+use Rattle.nc_journal.proofs.Buffers.{find-first}
 use Rattle.nc_owner_laws.specs.InOrder.{TellsThen, LooksAt}
 use Rattle.nc_spool_state.specs.declared.place.Quiet.{Quiet}
 use Rattle.nc_spool_state.specs.declared.place.Place.{Place}

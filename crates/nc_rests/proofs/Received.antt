@@ -1,16 +1,16 @@
 -- What a worker took of another, as the history goes on, and what it takes next.
-use Rattle.std.specs.Prelude.{◌==◌, ◌&&◌}
+use Rattle.std.proofs.Common.{◌≡◌, ℕ, Bool, true, false, cond, List, [], ◌∷◌, ◌++◌, drop, refl, ap, ◌∙◌, subst, arith}
+use Rattle.std.specs.Prelude.{◌&&◌, ◌==◌}
 use Rattle.std.specs.List.{AllByRecursion}
-use Rattle.std.proofs.Common.{◌≡◌, ℕ, Bool, true, false, cond, List, [], ◌∷◌, ◌++◌, refl, ap, ◌∙◌, subst, arith, drop}
 use Rattle.std.proofs.lemmas.Bool.{eq-eqb, cond_both}
+use Rattle.nc_journal.specs.History.{own, is_by}
 use Rattle.nc_journal.specs.declared.event.Event.{Event}
 use Rattle.nc_journal.specs.declared.event.Event.TheVariants.{Made, Took}
 use Rattle.nc_journal.specs.declared.alert.AlertLine.{AlertLine}
-use Rattle.nc_journal.specs.History.{own, is_by}
 use Rattle.nc_journal.specs.declared.word.AlertKind.{AlertKind}
 use Rattle.nc_owner_laws.specs.Wake.{made_to}
-use Rattle.nc_history.proofs.Prefixes.{taken_is_prefix}
 use Rattle.nc_history.specs.Packets.{Packet, is_pair, takes, pending, lines_of, first_line, sent_lines, received, IsNext}
+use Rattle.nc_history.proofs.Prefixes.{taken_is_prefix}
 
 pub received_same : (o w : ℕ) (e : Event) (h : List Event) → takes o w e ≡ false → received o w (e ∷ h) ≡ received o w h
 received_same o w (Took y x n kind) h other = ap (λ b. cond b (received o w h ++ first_line (pending o w h)) (received o w h)) other

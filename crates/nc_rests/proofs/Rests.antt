@@ -1,17 +1,17 @@
 -- What a place rests on stays as the history goes on.
-use Rattle.std.specs.Prelude.{◌==◌, ◌&&◌}
-use Rattle.std.proofs.Common.{◌≡◌, inl, inr, ℕ, Bool, true, false, cond, List, [], ◌∷◌, ◌++◌, Option, refl, sym, ap, ◌∙◌, subst, Some, None}
+use Rattle.std.proofs.Common.{◌≡◌, inl, inr, ℕ, Bool, true, false, cond, List, [], ◌∷◌, ◌++◌, Option, None, Some, refl, sym, ap, ◌∙◌, subst}
+use Rattle.std.specs.Prelude.{◌&&◌, ◌==◌}
 use Rattle.std.proofs.lemmas.Bool.{eqb-true, cond_both}
 use Rattle.nc_types.specs.Id.{Id}
 use Rattle.nc_types.specs.Channel.{owner_of}
+use Rattle.nc_journal.specs.History.{own, is_by}
 use Rattle.nc_journal.specs.Message.{Message, published}
 use Rattle.nc_journal.specs.declared.event.Event.{Event}
 use Rattle.nc_journal.specs.declared.alert.AlertLine.{AlertLine}
-use Rattle.nc_journal.specs.History.{own, is_by}
-use Rattle.nc_journal.proofs.Buffers.{published-push}
 use Rattle.nc_journal.specs.declared.event.Event.TheVariants.{Took}
 use Rattle.nc_journal.specs.declared.word.AlertKind.{AlertKind}
 use Rattle.nc_journal.specs.declared.alert.AlertLine.TheVariants as lines
+use Rattle.nc_journal.proofs.Buffers.{published-push}
 use Rattle.nc_owner_laws.specs.Wake.{Wake, NotYet, Waiting, ByNotice, ByGone, woken, hear, hears}
 use Rattle.nc_history.specs.Packets.{is_pair, pending, first_line, received, IsNext}
 use Rattle.nc_rests.specs.Came.{HasAnswer, HasNotice, HasNoticeBehind, CameBy}

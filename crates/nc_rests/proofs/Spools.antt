@@ -1,14 +1,14 @@
 -- Those who wait at a spool where nothing was found lack nothing.
-use Rattle.std.specs.List.{AllByRecursion}
 use Rattle.std.proofs.Common.{◌≡◌, ℕ, false, List, subst}
+use Rattle.std.specs.List.{AllByRecursion}
 use Rattle.nc_types.specs.Id.{Id, IsPast, is_past}
 use Rattle.nc_types.specs.Cursor.{cursor_id}
 use Rattle.nc_types.specs.Channel.{owner_of}
-use Rattle.nc_journal.specs.declared.event.Event.{Event}
 use Rattle.nc_journal.specs.History.{own}
+use Rattle.nc_journal.specs.Message.{buffer}
+use Rattle.nc_journal.specs.declared.event.Event.{Event}
 use Rattle.nc_journal.proofs.Cuts.{all-weaker}
 use Rattle.nc_journal.proofs.Ids.{not_past_of_test}
-use Rattle.nc_journal.specs.Message.{buffer}
 use Rattle.nc_owner_laws.specs.Behind.{NothingIsPast}
 use Rattle.nc_rests.specs.Owners.{Owners}
 use Rattle.nc_rests.specs.Rests.{Rest, Nothing, Found, RestsAt}

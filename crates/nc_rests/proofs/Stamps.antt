@@ -1,24 +1,20 @@
 -- Floors never fall, and what is stored is at or above the floor and has a tag.
-use Rattle.std.specs.List.{AllByRecursion}
+use Rattle.std.proofs.Common.{ℕ, ◌≤◌, ◌≤ℤ◌, pos, negsuc, max, Bool, true, false, cond, List, [], ◌∷◌, ◌++◌, Option, None, Some, sym, subst, arith}
 use Rattle.std.specs.Prelude.{IfSome, unwrap_or}
+use Rattle.std.specs.List.{AllByRecursion}
 use Rattle.std.specs.Cmp.Lexicographic.{same_text}
-use Rattle.std.proofs.Common.{ℕ, ◌≤◌, Bool, true, false, cond, List, [], ◌∷◌, ◌++◌, Option, sym, subst, arith, Some, None, ◌≤ℤ◌, pos, negsuc, max}
 use Rattle.std.proofs.lemmas.Bool.{cond_both}
 use Rattle.std.proofs.lemmas.Int.{ints}
 use Rattle.nc_types.specs.Id.{Id}
 use Rattle.nc_types.specs.Channel.{owner_of, name_eq}
-use Rattle.nc_journal.specs.declared.event.Event.{Event}
-use Rattle.nc_journal.specs.declared.event.Event.TheVariants.{Looked, Stored, Removed, Joined, Raised}
 use Rattle.nc_journal.specs.History.{own, is_by}
+use Rattle.nc_journal.specs.Stamp.{floor_of, StampedAt, IsStamped, last_of, clock_of, spent_of, made_last, greater_id, next_id, IsStamp}
 use Rattle.nc_journal.specs.Message.{Message, published, message_of}
+use Rattle.nc_journal.specs.declared.event.Event.{Event}
+use Rattle.nc_journal.specs.declared.event.Event.TheVariants.{Joined, Stored, Looked, Removed}
 use Rattle.nc_journal.proofs.Cuts.{all-weaker, all-append}
 use Rattle.nc_journal.proofs.Buffers.{published-push}
-use Rattle.nc_journal.specs.Stamp.{floor_of, StampedAt, IsStamped, last_of, clock_of, spent_of, made_last, greater_id, next_id, IsStamp}
-
-pub floor_step : (e : Event) (l : List Event) → floor_of l ≤ floor_of (e ∷ l)
-floor_step (Raised w t) l = omega arith
-floor_step (Stored w c id slot len exp kept members from r ct body) l = omega arith
-floor_step e l = omega arith
+use Rattle.nc_owner_laws.proofs.Stamping.{floor_step}
 
 pub floor_own : (w : ℕ) (e : Event) (h : List Event) → floor_of (own w h) ≤ floor_of (own w (e ∷ h))
 floor_own w e h = cond_both (is_by w e) (e ∷ own w h) (own w h) (λ l. floor_of (own w h) ≤ floor_of l) (λ _. floor_step e (own w h)) (λ _. omega arith)

@@ -1,13 +1,13 @@
 -- The whole history keeps the owners' rules where each local one does.
-use Rattle.std.specs.Prelude.{◌==◌}
-use Rattle.std.specs.List.{AllByRecursion}
 use Rattle.std.proofs.Common.{◌≡◌, ℕ, ◌<◌, Bool, true, false, cond, List, [], ◌∷◌, refl, ap, ◌∙◌, subst}
-use Rattle.std.proofs.lemmas.Bool.{eq-eqb, cond_both}
-use Rattle.nc_journal.specs.Stamp.{stamp, floor_of, StampedAt, IsStamped, last_of, IsStamp, IsLast}
+use Rattle.std.specs.List.{AllByRecursion}
+use Rattle.std.proofs.lemmas.Bool.{cond_both}
 use Rattle.nc_journal.specs.History.{Along, own, is_by}
+use Rattle.nc_journal.specs.Stamp.{stamp, floor_of, StampedAt, IsStamped, last_of, IsStamp, IsLast}
 use Rattle.nc_journal.specs.declared.event.Event.{Event}
-use Rattle.nc_journal.specs.declared.event.Event.TheVariants.{Looked, Stored, Removed, Left, Edged, Raised}
+use Rattle.nc_journal.specs.declared.event.Event.TheVariants.{Raised, Stored, Left, Looked, Edged, Removed}
 use Rattle.nc_rests.specs.Owners.{IsByOwner, OwnersKeep}
+use Rattle.nc_rests.proofs.Received.{eqb_self}
 
 -- what each worker did itself, it did itself
 pub own_own : (w : ℕ) (h : List Event) → own w (own w h) ≡ own w h
@@ -37,18 +37,15 @@ here_along P o e h is a = (subst (Along P) (own_here o e h is) a).1
 here_all : (P : Event → Type 0) (o : ℕ) (e : Event) (h : List Event) → is_by o e ≡ true → AllByRecursion P (own o (e ∷ h)) → P e
 here_all P o e h is a = (subst (AllByRecursion P) (own_here o e h is) a).0
 
-self : (w : ℕ) → (w == w) ≡ true
-self w = eq-eqb w w refl
-
 stamped_whole : (workers : ℕ) (e : Event) (h : List Event) → ((o : ℕ) → IsStamped workers (own o (e ∷ h))) → StampedAt workers h e
 stamped_whole workers (Stored w c id slot len exp kept members from r ct body) h f =
-    let s : IsStamp workers w c id (own w h) = here_along (StampedAt workers) w (Stored w c id slot len exp kept members from r ct body) h (self w) (f w) in
+    let s : IsStamp workers w c id (own w h) = here_along (StampedAt workers) w (Stored w c id slot len exp kept members from r ct body) h (eqb_self w) (f w) in
     record { owner = s.owner; stamped = subst (λ (l : List Event). id ≡ stamp c l) (own_own w h) s.stamped; time = s.time }
 stamped_whole workers (Raised w t) h f =
-    let s : StampedAt workers (own w h) (Raised w t) = here_along (StampedAt workers) w (Raised w t) h (self w) (f w) in
+    let s : StampedAt workers (own w h) (Raised w t) = here_along (StampedAt workers) w (Raised w t) h (eqb_self w) (f w) in
     subst (λ (l : List Event). floor_of l < t) (own_own w h) s
 stamped_whole workers (Removed w c last cause) h f =
-    let s : IsLast workers w c last (own w h) = here_along (StampedAt workers) w (Removed w c last cause) h (self w) (f w) in
+    let s : IsLast workers w c last (own w h) = here_along (StampedAt workers) w (Removed w c last cause) h (eqb_self w) (f w) in
     record { owner = s.owner; is_last = subst (λ (l : List Event). last ≡ last_of c l) (own_own w h) s.is_last }
 stamped_whole workers e h f = tt
 
@@ -57,10 +54,10 @@ all_stamped workers [] f = tt
 all_stamped workers (e ∷ h) f = (all_stamped workers h (λ o. older_along (StampedAt workers) o e h (f o)), stamped_whole workers e h f)
 
 by_whole : (workers : ℕ) (e : Event) (h : List Event) → ((o : ℕ) → AllByRecursion (IsByOwner workers) (own o (e ∷ h))) → IsByOwner workers e
-by_whole workers (Stored w c id slot len exp kept members from r ct body) h f = here_all (IsByOwner workers) w (Stored w c id slot len exp kept members from r ct body) h (self w) (f w)
-by_whole workers (Left w c id slot cause) h f = here_all (IsByOwner workers) w (Left w c id slot cause) h (self w) (f w)
-by_whole workers (Looked w q from number c after floor found) h f = here_all (IsByOwner workers) w (Looked w q from number c after floor found) h (self w) (f w)
-by_whole workers (Edged w q from number k c floor last) h f = here_all (IsByOwner workers) w (Edged w q from number k c floor last) h (self w) (f w)
+by_whole workers (Stored w c id slot len exp kept members from r ct body) h f = here_all (IsByOwner workers) w (Stored w c id slot len exp kept members from r ct body) h (eqb_self w) (f w)
+by_whole workers (Left w c id slot cause) h f = here_all (IsByOwner workers) w (Left w c id slot cause) h (eqb_self w) (f w)
+by_whole workers (Looked w q from number c after floor found) h f = here_all (IsByOwner workers) w (Looked w q from number c after floor found) h (eqb_self w) (f w)
+by_whole workers (Edged w q from number k c floor last) h f = here_all (IsByOwner workers) w (Edged w q from number k c floor last) h (eqb_self w) (f w)
 by_whole workers e h f = tt
 
 all_by_owner : (workers : ℕ) (h : List Event) → ((o : ℕ) → AllByRecursion (IsByOwner workers) (own o h)) → AllByRecursion (IsByOwner workers) h

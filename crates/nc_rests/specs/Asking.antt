@@ -1,10 +1,10 @@
 -- Looks that a worker asked for: each number is drawn for one channel and one id.
 use Rattle.std.specs.Prelude.{◌≡◌, ◌⊎◌, ℕ, ◌≤◌, List, [], ◌∷◌}
 use Rattle.nc_types.specs.Id.{Id}
+use Rattle.nc_journal.specs.History.{own}
 use Rattle.nc_journal.specs.declared.event.Event.{Event}
 use Rattle.nc_journal.specs.declared.event.Event.TheVariants.{Looked, Made}
 use Rattle.nc_journal.specs.declared.alert.AlertLine.TheVariants.{Look, Edge}
-use Rattle.nc_journal.specs.History.{own}
 use Rattle.nc_owner_laws.specs.Used.{times}
 use Rattle.nc_history.specs.Packets.{IsNext}
 

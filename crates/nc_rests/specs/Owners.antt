@@ -3,9 +3,9 @@ use Rattle.std.specs.Prelude.{◌≡◌, ℕ, List}
 use Rattle.std.specs.List.{AllByRecursion}
 use Rattle.nc_types.specs.Channel.{owner_of}
 use Rattle.nc_journal.specs.History.{Along, own}
-use Rattle.nc_journal.specs.declared.event.Event.{Event}
-use Rattle.nc_journal.specs.declared.event.Event.TheVariants.{Looked, Stored, Left, Edged}
 use Rattle.nc_journal.specs.Stamp.{IsStamped}
+use Rattle.nc_journal.specs.declared.event.Event.{Event}
+use Rattle.nc_journal.specs.declared.event.Event.TheVariants.{Stored, Left, Looked, Edged}
 use Rattle.nc_owner_laws.specs.InOrder.{LooksAt}
 
 -- a message is stored and leaves, and a look or an edge is made, by the owner of the channel

@@ -1,5 +1,5 @@
 -- The places of spools as they are kept: what is so of each, and what keeps it.
-use Rattle.std.specs.Prelude.{◌≡◌, ℕ, List, ◌∷◌, false, Option, None, Some}
+use Rattle.std.specs.Prelude.{◌≡◌, ℕ, false, List, ◌∷◌, Option, None, Some}
 use Rattle.std.specs.Option.{option_map}
 use Rattle.nc_types.specs.Id.{Id, is_past}
 use Rattle.nc_types.specs.Channel.{owner_of}

@@ -2,10 +2,10 @@
 use Rattle.std.specs.Prelude.{◌≡◌, ℕ, List, ◌∷◌, ◌++◌, Option, None, Some}
 use Rattle.nc_types.specs.Id.{Id, IsPast}
 use Rattle.nc_types.specs.Channel.{owner_of}
+use Rattle.nc_journal.specs.History.{own}
 use Rattle.nc_journal.specs.Message.{Message, published}
 use Rattle.nc_journal.specs.declared.event.Event.{Event}
 use Rattle.nc_journal.specs.declared.event.Event.TheVariants.{Looked}
-use Rattle.nc_journal.specs.History.{own}
 use Rattle.nc_owner_laws.specs.Wake.{NotYet, Waiting, hears}
 use Rattle.nc_history.specs.Packets.{received}
 use Rattle.nc_rests.specs.Came.{CameBy}

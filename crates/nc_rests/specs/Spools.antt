@@ -1,12 +1,12 @@
 -- Whole spools: what is so of each place, and what those who wait there lack.
-use Rattle.std.specs.Prelude.{◌≡◌, ℕ, List, Bool, Some, slice_get, length}
+use Rattle.std.specs.Prelude.{◌≡◌, ℕ, Bool, List, length, slice_get, Some}
 use Rattle.std.specs.List.{AllByRecursion}
 use Rattle.nc_types.specs.Cursor.{CursorAt, cursor_id}
 use Rattle.nc_types.specs.Channel.{AreDistinct}
-use Rattle.nc_journal.specs.declared.event.Event.{Event}
 use Rattle.nc_journal.specs.History.{own}
 use Rattle.nc_journal.specs.Standing.{Standing}
 use Rattle.nc_journal.specs.Sending.{LacksNothing}
+use Rattle.nc_journal.specs.declared.event.Event.{Event}
 use Rattle.nc_spool_state.specs.declared.place.Place.{Place}
 use Rattle.nc_rests.specs.Owners.{Owners}
 use Rattle.nc_rests.specs.Places.{PlaceHolds}

@@ -2,9 +2,9 @@
 use Rattle.std.specs.Prelude.{◌≡◌, ℕ, ◌≤◌, List, [], ◌∷◌, IfSome}
 use Rattle.nc_types.specs.Id.{Id, IsPast}
 use Rattle.nc_types.specs.Channel.{owner_of}
-use Rattle.nc_journal.specs.declared.event.Event.{Event}
 use Rattle.nc_journal.specs.History.{own}
 use Rattle.nc_journal.specs.Message.{buffer}
+use Rattle.nc_journal.specs.declared.event.Event.{Event}
 use Rattle.nc_journal.specs.declared.event.Event.TheVariants.{Took}
 use Rattle.nc_journal.specs.declared.word.AlertKind.{AlertKind}
 use Rattle.nc_journal.specs.declared.alert.AlertLine.TheVariants.{Notice}

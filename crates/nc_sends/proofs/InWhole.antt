@@ -1,18 +1,18 @@
 -- What stands in its owner's local history, in the whole one: a look, and a message that was found.
+use Rattle.std.proofs.Common.{◌≡◌, ◌⊎◌, inl, inr, ℕ, true, List, [], ◌∷◌, ◌++◌, find, Option, None, Some, refl, sym, ap, ◌∙◌, subst}
 use Rattle.std.specs.List.{AllByRecursion}
 use Rattle.std.specs.Option.{option_map}
-use Rattle.std.proofs.Common.{◌≡◌, inl, inr, ℕ, true, List, [], ◌∷◌, ◌++◌, Option, refl, sym, ap, ◌∙◌, subst, Some, None, ◌⊎◌, find}
 use Rattle.nc_types.specs.Id.{Id, IsPast, is_past}
 use Rattle.nc_types.specs.Channel.{owner_of}
-use Rattle.nc_journal.specs.Message.{Message, published, buffer, first_past, IsRising}
 use Rattle.nc_journal.specs.History.{Along, own}
+use Rattle.nc_journal.specs.Stamp.{floor_of, StampedAt, IsStamped}
+use Rattle.nc_journal.specs.Message.{Message, published, buffer, first_past, IsRising}
+use Rattle.nc_journal.specs.Sending.{IsLook, HasId}
 use Rattle.nc_journal.specs.declared.event.Event.{Event}
 use Rattle.nc_journal.specs.declared.event.Event.TheVariants.{Looked}
-use Rattle.nc_journal.specs.Sending.{IsLook, HasId}
 use Rattle.nc_journal.proofs.Cuts.{all-weaker, all-left, all-right}
 use Rattle.nc_journal.proofs.Buffers.{published-push, published-append, IsBeside, find-first, find-none, buffer-in, has-append-left, has-append-right}
 use Rattle.nc_journal.proofs.Ids.{past_of_test}
-use Rattle.nc_journal.specs.Stamp.{floor_of, StampedAt, IsStamped}
 use Rattle.nc_journal.proofs.Rising.{ids-rise}
 use Rattle.nc_owner_laws.specs.InOrder.{TellsThen, LooksAt}
 use Rattle.nc_rests.specs.Rests.{LookAt, BeginsWith, IsFound, AtLook, Behind}

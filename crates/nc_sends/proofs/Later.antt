@@ -1,19 +1,19 @@
 -- A send that was lawful when it was made stays so, and its fences too.
+use Rattle.std.proofs.Common.{◌≡◌, ◌⊎◌, inl, inr, ℕ, ◌≤◌, Bool, true, false, cond, List, [], ◌∷◌, ◌++◌, slice_get, Some, refl, sym, ap, ◌∙◌, subst, arith, append_assoc}
 use Rattle.std.specs.List.{AllByRecursion}
 use Rattle.std.specs.Cmp.Lexicographic.{same_text}
-use Rattle.std.proofs.Common.{◌≡◌, inl, inr, ℕ, ◌≤◌, Bool, true, false, cond, List, [], ◌∷◌, ◌++◌, refl, sym, ap, ◌∙◌, subst, arith, Some, slice_get, ◌⊎◌, append_assoc}
 use Rattle.nc_types.specs.Id.{Id, IsPast}
 use Rattle.nc_types.specs.Cursor.{moved, CursorAt, cursor_id}
 use Rattle.nc_types.specs.Channel.{owner_of, name_eq}
 use Rattle.nc_journal.specs.History.{Along, own}
-use Rattle.nc_journal.specs.declared.event.Event.{Event}
-use Rattle.nc_journal.specs.Sending.{SentFrom, IsSpared, RestsOnLook, IsSentFrom, HasId, SentAt}
+use Rattle.nc_journal.specs.Stamp.{floor_of, StampedAt, IsStamped}
 use Rattle.nc_journal.specs.Message.{Message, published, buffer, message_of}
 use Rattle.nc_journal.specs.Standing.{Stage, Standing, stage_of}
-use Rattle.nc_journal.specs.declared.event.Event.TheVariants.{Sent, Stored}
+use Rattle.nc_journal.specs.Sending.{SentFrom, IsSpared, RestsOnLook, IsSentFrom, HasId, SentAt}
+use Rattle.nc_journal.specs.declared.event.Event.{Event}
+use Rattle.nc_journal.specs.declared.event.Event.TheVariants.{Stored, Sent}
 use Rattle.nc_journal.proofs.Cuts.{all-weaker, all-append, cut-push}
 use Rattle.nc_journal.proofs.Buffers.{published-push, published-append, buffer-in, has-append-left, has-append-right}
-use Rattle.nc_journal.specs.Stamp.{floor_of, StampedAt, IsStamped}
 use Rattle.nc_journal.proofs.Rising.{stored-past}
 use Rattle.nc_rests.proofs.Histories.{along_at}
 use Rattle.nc_rests.proofs.Lists.{all_at, same_name}

@@ -1,20 +1,21 @@
 -- A spool that is ready sends lawfully.
+use Rattle.std.proofs.Common.{◌≡◌, inl, inr, ℕ, zero, suc, ◌≤◌, List, [], ◌∷◌, map, slice_get, Option, None, Some, refl, sym, ap, ◌∙◌, subst, arith}
 use Rattle.std.specs.List.{AllByRecursion}
-use Rattle.std.proofs.Common.{◌≡◌, inl, inr, ℕ, ◌≤◌, List, [], ◌∷◌, Option, refl, sym, ap, ◌∙◌, subst, arith, zero, suc, map, Some, None, slice_get}
 use Rattle.std.proofs.lemmas.Bool.{cases_eq}
 use Rattle.std.proofs.lemmas.List.{length-map}
 use Rattle.nc_types.specs.Id.{Id}
 use Rattle.nc_types.specs.Cursor.{moved, cursor_id}
 use Rattle.nc_types.specs.Channel.{owner_of}
 use Rattle.nc_journal.specs.History.{Along, own}
+use Rattle.nc_journal.specs.Stamp.{floor_of}
+use Rattle.nc_journal.specs.Message.{published}
+use Rattle.nc_journal.specs.Sending.{RestsOnLook, HasId}
 use Rattle.nc_journal.specs.declared.event.Event.{Event}
 use Rattle.nc_journal.specs.declared.event.Event.TheVariants.{Looked}
 use Rattle.nc_journal.specs.declared.alert.AlertLine.{AlertLine}
-use Rattle.nc_journal.specs.Message.{published}
-use Rattle.nc_journal.specs.Sending.{RestsOnLook, HasId}
-use Rattle.nc_journal.specs.Stamp.{floor_of}
 use Rattle.nc_journal.specs.declared.alert.AlertLine.TheVariants as lines
 use Rattle.nc_owner_laws.specs.InOrder.{TellsThen, LooksAt}
+use Rattle.nc_owner_laws.proofs.Stamping.{floor_step}
 use Rattle.nc_history.specs.Packets.{received}
 use Rattle.nc_rests.specs.Came.{HasAnswer, HasNoticeBehind, CameBy}
 use Rattle.nc_rests.specs.Owners.{IsByOwner, Owners}
@@ -23,7 +24,7 @@ use Rattle.nc_rests.proofs.Heard.{nothing_answered}
 use Rattle.nc_rests.proofs.Histories.{along_at}
 use Rattle.nc_rests.proofs.Lists.{all_at, at_length, all_by}
 use Rattle.nc_rests.proofs.Locals.{published_own}
-use Rattle.nc_rests.proofs.Stamps.{floor_step, floor_append, floor_above}
+use Rattle.nc_rests.proofs.Stamps.{floor_append, floor_above}
 use Rattle.nc_sends.specs.Chosen.{IsReady, SpoolsSend}
 use Rattle.nc_sends.specs.Taken.{HasLookAnswer}
 use Rattle.nc_sends.proofs.InWhole.{found_in, found_published}

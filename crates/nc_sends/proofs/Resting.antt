@@ -1,16 +1,16 @@
 -- Each place of a spool that is ready rests on its look, as a lawful sent asks.
+use Rattle.std.proofs.Common.{◌≡◌, ◌≢◌, ◌⊎◌, inl, inr, ℕ, ◌≤◌, ◌≤ℤ◌, pos, List, [], ◌∷◌, slice_get, Option, None, Some, refl, sym, ap, ◌∙◌, subst, arith}
 use Rattle.std.specs.List.{AllByRecursion}
-use Rattle.std.proofs.Common.{◌≡◌, inl, inr, ℕ, ◌≤◌, List, [], ◌∷◌, Option, refl, sym, ap, ◌∙◌, subst, arith, Some, None, slice_get, ◌≢◌, ◌⊎◌, ◌≤ℤ◌, pos}
 use Rattle.nc_types.specs.Id.{Id, IsPast}
 use Rattle.nc_types.specs.Cursor.{moved, CursorAt, cursor_id}
 use Rattle.nc_types.specs.Channel.{owner_of}
-use Rattle.nc_journal.specs.declared.event.Event.{Event}
-use Rattle.nc_journal.specs.declared.event.Event.TheVariants.{Looked}
 use Rattle.nc_journal.specs.History.{own}
+use Rattle.nc_journal.specs.Stamp.{floor_of, IsStamped}
 use Rattle.nc_journal.specs.Message.{Message, published, buffer, first_past}
 use Rattle.nc_journal.specs.Sending.{IsSpared, RestsOnLook, HasId}
+use Rattle.nc_journal.specs.declared.event.Event.{Event}
+use Rattle.nc_journal.specs.declared.event.Event.TheVariants.{Looked}
 use Rattle.nc_journal.proofs.Cuts.{all-weaker}
-use Rattle.nc_journal.specs.Stamp.{floor_of, IsStamped}
 use Rattle.nc_journal.proofs.Buffers.{IsBeside, find-none}
 use Rattle.nc_rests.specs.Owners.{Owners}
 use Rattle.nc_rests.specs.Rests.{IsFound, AtLook, Behind, Rest, Nothing, Found, look_of, RestsAt}

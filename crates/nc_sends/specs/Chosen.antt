@@ -1,10 +1,10 @@
 -- A spool that is ready sends lawfully: what its places rest on is what the definition of a lawful sent asks.
-use Rattle.std.specs.Prelude.{◌≡◌, ℕ, ◌≤◌, List, [], Some, slice_get, map}
+use Rattle.std.specs.Prelude.{◌≡◌, ℕ, ◌≤◌, List, [], map, slice_get, Some}
 use Rattle.std.specs.List.{AllByRecursion}
 use Rattle.nc_types.specs.Id.{Id}
 use Rattle.nc_types.specs.Cursor.{CursorAt, moved}
-use Rattle.nc_journal.specs.declared.event.Event.{Event}
 use Rattle.nc_journal.specs.Sending.{IsSentFrom}
+use Rattle.nc_journal.specs.declared.event.Event.{Event}
 use Rattle.nc_rests.specs.Owners.{Owners}
 use Rattle.nc_rests.specs.Rests.{Rest, Nothing, Found, look_of}
 use Rattle.nc_rests.specs.Spools.{IsSpool}

@@ -4,10 +4,10 @@ use Rattle.std.specs.List.{AllByRecursion}
 use Rattle.nc_types.specs.Cursor.{CursorAt}
 use Rattle.nc_types.specs.Channel.{owner_of}
 use Rattle.nc_journal.specs.History.{Along, own, AtEachCut}
-use Rattle.nc_journal.specs.declared.event.Event.{Event}
-use Rattle.nc_journal.specs.Standing.{stage_of, Standing, Stage}
-use Rattle.nc_journal.specs.declared.event.Event.TheVariants.{Sent}
 use Rattle.nc_journal.specs.Stamp.{floor_of}
+use Rattle.nc_journal.specs.Standing.{stage_of, Standing, Stage}
+use Rattle.nc_journal.specs.declared.event.Event.{Event}
+use Rattle.nc_journal.specs.declared.event.Event.TheVariants.{Sent}
 
 -- at the owner of each channel of a list the floor isn't below a time
 abbrev pub AreFenced : ℕ → ℕ → List (List ℕ) → List Event → Type 0

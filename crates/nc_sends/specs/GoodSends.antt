@@ -1,9 +1,9 @@
 -- What an event is when it is made, if it is a sent: lawful, fenced, and resting on what was taken.
-use Rattle.std.specs.Prelude.{◌≡◌, ℕ, List, [], Bool, map, slice_index_or}
+use Rattle.std.specs.Prelude.{◌≡◌, ℕ, Bool, List, [], map, slice_index_or}
 use Rattle.nc_types.specs.Cursor.{CursorAt, moved}
-use Rattle.nc_journal.specs.declared.event.Event.{Event}
 use Rattle.nc_journal.specs.History.{own}
 use Rattle.nc_journal.specs.Standing.{stage_of, Standing}
+use Rattle.nc_journal.specs.declared.event.Event.{Event}
 use Rattle.nc_journal.specs.declared.event.Event.TheVariants.{Sent}
 use Rattle.nc_spool_state.specs.declared.place.Place.{Place}
 use Rattle.nc_spool_state.specs.declared.choice.Find.{Find}

@@ -1,9 +1,9 @@
 -- A send that was lawful when it was made stays so, whatever is stored later.
 use Rattle.std.specs.Prelude.{ℕ, List, []}
 use Rattle.nc_journal.specs.History.{Along}
-use Rattle.nc_journal.specs.declared.event.Event.{Event}
-use Rattle.nc_journal.specs.Sending.{IsSentLawfully, SentAt}
 use Rattle.nc_journal.specs.Stamp.{IsStamped}
+use Rattle.nc_journal.specs.Sending.{IsSentLawfully, SentAt}
+use Rattle.nc_journal.specs.declared.event.Event.{Event}
 use Rattle.nc_sends.specs.Fences.{FencedAt}
 
 -- a sent is lawful when it is made, where nothing is later

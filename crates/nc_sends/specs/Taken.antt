@@ -1,12 +1,12 @@
 -- What a sent rests on was taken: the answers to the looks that it names, and the message itself.
-use Rattle.std.specs.Prelude.{◌≡◌, ◌⊎◌, ℕ, List, [], ◌∷◌, Some, slice_get}
+use Rattle.std.specs.Prelude.{◌≡◌, ◌⊎◌, ℕ, List, [], ◌∷◌, slice_get, Some}
 use Rattle.nc_types.specs.Id.{Id}
 use Rattle.nc_types.specs.Channel.{owner_of}
+use Rattle.nc_journal.specs.History.{own}
+use Rattle.nc_journal.specs.Standing.{stage_of, Standing, Stage}
 use Rattle.nc_journal.specs.declared.event.Event.{Event}
 use Rattle.nc_journal.specs.declared.alert.AlertLine.{AlertLine}
 use Rattle.nc_journal.specs.declared.alert.AlertLine.TheVariants.{LookAnswer}
-use Rattle.nc_journal.specs.History.{own}
-use Rattle.nc_journal.specs.Standing.{stage_of, Standing, Stage}
 use Rattle.nc_journal.specs.declared.event.Event.TheVariants.{Sent}
 use Rattle.nc_history.specs.Packets.{received}
 use Rattle.nc_rests.specs.Came.{CameBy}

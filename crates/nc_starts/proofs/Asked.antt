@@ -1,14 +1,14 @@
 -- What a start that asked for edges knows of them.
-use Rattle.std.specs.Prelude.{◌==◌, ◌&&◌}
-use Rattle.std.proofs.Common.{◌≡◌, inl, inr, ℕ, ◌+◌, ◌≤◌, Bool, true, false, cond, List, [], ◌∷◌, ◌++◌, refl, sym, ap, ◌∙◌, subst, arith, suc, ◌≢◌, length, length-append}
+use Rattle.std.proofs.Common.{◌≡◌, ◌≢◌, inl, inr, ℕ, suc, ◌+◌, ◌≤◌, Bool, true, false, cond, List, [], ◌∷◌, ◌++◌, length, refl, sym, ap, ◌∙◌, subst, arith, length-append}
+use Rattle.std.specs.Prelude.{◌&&◌, ◌==◌}
 use Rattle.std.proofs.lemmas.Bool.{eq-eqb}
 use Rattle.std.proofs.lemmas.List.{append-nil}
 use Rattle.std.proofs.lemmas.Cmp.{nat_list_eq_equiv}
 use Rattle.nc_types.specs.Channel.{owner_of, name_eq}
+use Rattle.nc_journal.specs.History.{own}
 use Rattle.nc_journal.specs.declared.event.Event.{Event}
 use Rattle.nc_journal.specs.declared.alert.AlertLine.{AlertLine}
-use Rattle.nc_journal.specs.History.{own}
-use Rattle.nc_journal.specs.declared.event.Event.TheVariants.{Took, Edged}
+use Rattle.nc_journal.specs.declared.event.Event.TheVariants.{Edged, Took}
 use Rattle.nc_journal.specs.declared.word.AlertKind.{AlertKind}
 use Rattle.nc_journal.specs.declared.alert.AlertLine.TheVariants as lines
 use Rattle.nc_owner_laws.specs.Wake.{made_to}

@@ -1,19 +1,19 @@
 -- What is stored behind a place is past the last id there.
+use Rattle.std.proofs.Common.{ℕ, List, [], ◌∷◌, ◌++◌, sym, subst, arith}
 use Rattle.std.specs.List.{AllByRecursion}
 use Rattle.std.specs.Cmp.Lexicographic.{same_text}
-use Rattle.std.proofs.Common.{ℕ, List, [], ◌∷◌, ◌++◌, sym, subst, arith}
 use Rattle.std.proofs.lemmas.Bool.{cond_both}
 use Rattle.std.proofs.lemmas.Int.{ints}
 use Rattle.nc_types.specs.Id.{Id, IsPast}
 use Rattle.nc_types.specs.Channel.{owner_of, name_eq}
-use Rattle.nc_journal.specs.declared.event.Event.{Event}
 use Rattle.nc_journal.specs.History.{own}
+use Rattle.nc_journal.specs.Stamp.{StampedAt, IsStamped, last_of}
 use Rattle.nc_journal.specs.Message.{published, message_of}
+use Rattle.nc_journal.specs.declared.event.Event.{Event}
+use Rattle.nc_journal.specs.declared.event.Event.TheVariants.{Stored}
 use Rattle.nc_journal.proofs.Cuts.{all-weaker, all-append}
 use Rattle.nc_journal.proofs.Buffers.{published-push}
 use Rattle.nc_journal.proofs.Ids.{IsAtMost, at_most-trans, past_of_at_most}
-use Rattle.nc_journal.specs.Stamp.{StampedAt, IsStamped, last_of}
-use Rattle.nc_journal.specs.declared.event.Event.TheVariants.{Stored}
 use Rattle.nc_journal.proofs.Rising.{last-rises, stored-past-last}
 
 stores_past_last : (workers : ℕ) (c : List ℕ) (e : Event) (h : List Event) → StampedAt workers h e → AllByRecursion (λ m. IsPast m.id (last_of c (own (owner_of workers c) h))) (published c (e ∷ []))

@@ -1,6 +1,6 @@
 -- The cursor that a spool draws from the edges of a start.
-use Rattle.std.specs.Prelude.{◌==◌}
 use Rattle.std.proofs.Common.{◌≡◌, ℕ, negsuc, max, Bool, true, false, cond, List, [], ◌∷◌, map, fold, refl, ap, ◌∙◌, arith}
+use Rattle.std.specs.Prelude.{◌==◌}
 use Rattle.nc_spool_state.specs.declared.edge.Edge.{Edge}
 use Rattle.nc_spool_state.specs.declared.edge.Edge.TheVariants.{Awaited, Known}
 use Rattle.nc_spool_state.specs.Edge.{edge_tag, later, newest_time}

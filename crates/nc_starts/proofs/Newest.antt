@@ -1,20 +1,20 @@
 -- Where one starts behind the newest messages of its list.
+use Rattle.std.proofs.Common.{◌≡◌, ◌⊎◌, inl, inr, ℕ, zero, suc, ◌<◌, ◌≤◌, ◌≤ℤ◌, ℤ, pos, negsuc, Bool, true, false, cond, List, [], ◌∷◌, ◌++◌, map, get_or, slice_get, Some, refl, sym, ap, ◌∙◌, subst, arith, append_assoc}
 use Rattle.std.specs.Prelude.{◌==◌}
 use Rattle.std.specs.List.{AllByRecursion}
-use Rattle.std.proofs.Common.{◌≡◌, inl, inr, ℕ, ◌<◌, ◌≤◌, Bool, true, false, cond, List, [], ◌∷◌, ◌++◌, refl, sym, ap, ◌∙◌, subst, arith, zero, suc, map, Some, slice_get, ◌⊎◌, ℤ, append_assoc, ◌≤ℤ◌, pos, negsuc, get_or}
 use Rattle.std.proofs.lemmas.Bool.{eqb-true}
 use Rattle.std.proofs.lemmas.Int.{ints}
 use Rattle.nc_types.specs.Id.{Id, IsPast}
 use Rattle.nc_types.specs.Cursor.{CursorAt, cursor_id}
 use Rattle.nc_types.specs.Channel.{owner_of}
 use Rattle.nc_journal.specs.History.{Along, own}
-use Rattle.nc_journal.specs.declared.event.Event.{Event}
+use Rattle.nc_journal.specs.Stamp.{floor_of, StampedAt, IsStamped, last_of}
 use Rattle.nc_journal.specs.Message.{Message, published}
+use Rattle.nc_journal.specs.declared.event.Event.{Event}
+use Rattle.nc_journal.specs.declared.event.Event.TheVariants.{Edged}
 use Rattle.nc_journal.proofs.Cuts.{all-weaker, all-both, all-right}
 use Rattle.nc_journal.proofs.Buffers.{published-append}
 use Rattle.nc_journal.proofs.Ids.{IsAtMost}
-use Rattle.nc_journal.specs.Stamp.{floor_of, StampedAt, IsStamped, last_of}
-use Rattle.nc_journal.specs.declared.event.Event.TheVariants.{Edged}
 use Rattle.nc_journal.proofs.Rising.{published-below, IsUpToLast}
 use Rattle.nc_owner_laws.specs.InOrder.{LooksAt}
 use Rattle.nc_rests.proofs.Histories.{along_older}

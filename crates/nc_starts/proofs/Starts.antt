@@ -1,16 +1,16 @@
 -- Every start.
-use Rattle.std.specs.List.{AllByRecursion}
 use Rattle.std.proofs.Common.{◌≡◌, ℕ, List, [], ◌∷◌, ◌++◌, refl, sym, ap, ◌∙◌, subst, append_assoc}
+use Rattle.std.specs.List.{AllByRecursion}
 use Rattle.nc_types.specs.declared.start.Start.TheVariants.{Newest, Oldest, Given}
 use Rattle.nc_types.specs.Id.{IsPast}
 use Rattle.nc_types.specs.Cursor.{CursorAt, cursor_id}
 use Rattle.nc_journal.specs.History.{Along, own}
-use Rattle.nc_journal.specs.declared.event.Event.{Event}
+use Rattle.nc_journal.specs.Stamp.{IsStamped}
 use Rattle.nc_journal.specs.Message.{published}
 use Rattle.nc_journal.specs.Standing.{Stage, Starting, stage_of}
+use Rattle.nc_journal.specs.declared.event.Event.{Event}
 use Rattle.nc_journal.specs.declared.event.Event.TheVariants.{Started}
 use Rattle.nc_journal.proofs.Buffers.{published-append}
-use Rattle.nc_journal.specs.Stamp.{IsStamped}
 use Rattle.nc_owner_laws.specs.InOrder.{LooksAt}
 use Rattle.nc_rests.proofs.Histories.{along_at}
 use Rattle.nc_starts.specs.Edges.{since_last}

@@ -1,11 +1,11 @@
 -- What a start that asked for edges knows of them.
-use Rattle.std.specs.Prelude.{◌≡◌, ◌⊎◌, ℕ, List, [], ◌∷◌, ◌++◌, false, if◌then◌else◌, ◌==◌, ◌&&◌, ◌≢◌}
+use Rattle.std.specs.Prelude.{◌≡◌, ◌≢◌, ◌⊎◌, ℕ, false, if◌then◌else◌, ◌&&◌, ◌==◌, List, [], ◌∷◌, ◌++◌}
 use Rattle.nc_types.specs.Id.{Id}
 use Rattle.nc_types.specs.Channel.{owner_of, name_eq}
+use Rattle.nc_journal.specs.History.{own}
 use Rattle.nc_journal.specs.declared.event.Event.{Event}
 use Rattle.nc_journal.specs.declared.alert.AlertLine.{AlertLine}
 use Rattle.nc_journal.specs.declared.alert.AlertLine.TheVariants.{Edge}
-use Rattle.nc_journal.specs.History.{own}
 use Rattle.nc_journal.specs.declared.event.Event.TheVariants.{Edged, Took}
 use Rattle.nc_journal.specs.declared.word.AlertKind.{AlertKind}
 use Rattle.nc_owner_laws.specs.Wake.{made_to}

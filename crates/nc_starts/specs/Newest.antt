@@ -1,12 +1,12 @@
 -- A start behind the newest messages of a list, by its edges.
-use Rattle.std.specs.Prelude.{◌≡◌, ℕ, List, [], ◌∷◌, ◌++◌, Some, if◌then◌else◌, ◌==◌, slice_get, map, length, ℤ, negsuc, max}
+use Rattle.std.specs.Prelude.{◌≡◌, ℕ, ℤ, negsuc, max, if◌then◌else◌, ◌==◌, List, [], ◌∷◌, ◌++◌, length, map, slice_get, Some}
 use Rattle.std.specs.List.{AllByRecursion}
 use Rattle.nc_types.specs.Id.{Id, IsPast}
 use Rattle.nc_types.specs.Cursor.{CursorAt, cursor_id}
 use Rattle.nc_journal.specs.History.{Along, own}
-use Rattle.nc_journal.specs.declared.event.Event.{Event}
-use Rattle.nc_journal.specs.Message.{published}
 use Rattle.nc_journal.specs.Stamp.{IsStamped}
+use Rattle.nc_journal.specs.Message.{published}
+use Rattle.nc_journal.specs.declared.event.Event.{Event}
 use Rattle.nc_owner_laws.specs.InOrder.{LooksAt}
 use Rattle.nc_starts.specs.Edges.{Edges, seen_first, since_last}
 

@@ -2,12 +2,12 @@
 use Rattle.std.specs.Prelude.{ℕ, List, []}
 use Rattle.nc_types.specs.declared.start.Start.TheVariants.{Newest}
 use Rattle.nc_types.specs.Cursor.{CursorAt}
-use Rattle.nc_journal.specs.Sending.{StartsFrom}
 use Rattle.nc_journal.specs.History.{Along, own, AtEachCut}
-use Rattle.nc_journal.specs.declared.event.Event.{Event}
-use Rattle.nc_journal.specs.Standing.{stage_of, Stage, Starting}
-use Rattle.nc_journal.specs.declared.event.Event.TheVariants.{Started}
 use Rattle.nc_journal.specs.Stamp.{IsStamped}
+use Rattle.nc_journal.specs.Standing.{stage_of, Stage, Starting}
+use Rattle.nc_journal.specs.Sending.{StartsFrom}
+use Rattle.nc_journal.specs.declared.event.Event.{Event}
+use Rattle.nc_journal.specs.declared.event.Event.TheVariants.{Started}
 use Rattle.nc_owner_laws.specs.InOrder.{LooksAt}
 use Rattle.nc_starts.specs.Newest.{StartsByEdges, StartsNewest}
 
