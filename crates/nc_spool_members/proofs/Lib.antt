@@ -1,0 +1,4 @@
+pub mod Weights
+pub mod Weighing
+pub mod Telling
+pub mod Singles

@@ -1,0 +1,7 @@
+//! Who stands with a channel, and what the calls of spools tell the channel's owner of it. There is no code here: each function
+//! does nothing, and its contract is a law.
+//!
+//! Below are `nc_spool` and its laws.
+#![tactic(auto)]
+
+pub mod members;

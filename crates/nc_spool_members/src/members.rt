@@ -1,0 +1,13 @@
+//! The members of channels, as the spools tell them.
+ghost use Rattle.nc_spool_members.specs.Members.{TellMembers};
+ghost use Rattle.nc_spool_members.specs.Singly.{KeepSingly};
+
+/// Once the owner of a channel heard all that a call asks, its members are those who stand with the channel after the call.
+pub fn members_are_told<H>()
+    ensures { TellMembers H }
+{}
+
+/// Between two calls nobody stands twice, and no list names a channel twice.
+pub fn stay_singly<H>()
+    ensures { KeepSingly H }
+{}
