@@ -31,6 +31,7 @@ use Rattle.nc_owner.specs.OtherSteps.{touch_events_of, join_events, part_events,
 use Rattle.nc_owner_laws.specs.Ascends.{IsAscending}
 use Rattle.nc_owner_laws.specs.Counted.{SlotsCount}
 use Rattle.nc_owner_laws.specs.Filters.{is_marked, marks_in}
+use Rattle.nc_owner_laws.specs.OwnerStanding.{Stands}
 use Rattle.nc_owner_laws.specs.Weave.{weave, makes, numbered}
 use Rattle.nc_owner_laws.proofs.Counting.{entries_count}
 use Rattle.nc_owner_laws.proofs.Rising.{stands_ascends}
@@ -39,7 +40,7 @@ use Rattle.nc_owner_laws.proofs.Weaving.{GrantsNot, weave_first}
 use Rattle.nc_worker_state.specs.Setup.{Setup}
 use Rattle.nc_world.specs.Reached.{IsSetup}
 use Rattle.nc_owner_laws.proofs.Stamping.{onto_append}
-use Rattle.nc_world_laws.specs.OwnerTheme.{OwnerFact, StepBase, IsOwnerTheme}
+use Rattle.nc_world_laws.specs.OwnerTheme.{OwnerFact, IsOwnerTheme}
 use Rattle.nc_world_laws.proofs.Local.{all_append, all_of}
 use Rattle.nc_world_laws.proofs.Telling.{woven_all}
 use Rattle.nc_world_laws.proofs.Stepping.{is_me, as_me}
@@ -270,15 +271,20 @@ opened_marks : (o : Option Channel) (d : Desk) → (unwrap_or o (new_channel d))
 opened_marks None d = refl
 opened_marks (Some ch) d = refl
 
-marks_few : (setup : Setup) (is : IsSetup setup) (me : ℕ) (row : List (Slot Message)) (counts : List ℕ) (h : List Event) (s : OwnerAt) → StepBase setup me row counts h s → AllByRecursion (IsAsked setup.workers) h → (c : List ℕ) → length (opened c s).marks ≤ 16
-marks_few setup is me row counts h s base a c =
+-- so each mark is of a worker that is there
+pub marks_there : (setup : Setup) (me : ℕ) (row : List (Slot Message)) (h : List Event) (s : OwnerAt) → Stands me setup.workers setup.slots setup.first row h s → AllByRecursion (IsAsked setup.workers) h → (c : List ℕ) → AllByRecursion (λ u. u < setup.workers) (opened c s).marks
+marks_there setup me row h s k a c =
     let marks = marks_in (found c s) in
-    let up = (stands_ascends me setup.workers setup.slots setup.first row h s base.keeps.stands).marks c in
-    let shown = ((stands_shows me setup.workers setup.slots setup.first row h s base.keeps.stands).channels c).marks in
-    let below = has_below setup.workers marks (λ u i. marked_below setup.workers c u h a (sym (shown u) ∙ i)) in
-    let few = few_below 0 setup.workers marks (omega arith) (all_low marks) below up in
+    let shown = ((stands_shows me setup.workers setup.slots setup.first row h s k).channels c).marks in
+    subst (λ (xs : List ℕ). AllByRecursion (λ u. u < setup.workers) xs) (sym (opened_marks (found c s) s.desk)) (has_below setup.workers marks (λ u i. marked_below setup.workers c u h a (sym (shown u) ∙ i)))
+
+marks_few : (setup : Setup) (is : IsSetup setup) (me : ℕ) (row : List (Slot Message)) (h : List Event) (s : OwnerAt) → Stands me setup.workers setup.slots setup.first row h s → AllByRecursion (IsAsked setup.workers) h → (c : List ℕ) → length (opened c s).marks ≤ 16
+marks_few setup is me row h s k a c =
+    let marks = (opened c s).marks in
+    let up = subst IsAscending (sym (opened_marks (found c s) s.desk)) ((stands_ascends me setup.workers setup.slots setup.first row h s k).marks c) in
+    let few = few_below 0 setup.workers marks (omega arith) (all_low marks) (marks_there setup me row h s k a c) up in
     let sixteen = is.2 in
-    subst (λ (xs : List ℕ). length xs ≤ 16) (sym (opened_marks (found c s) s.desk)) (omega (arith, few, sixteen))
+    omega (arith, few, sixteen)
 
 -- ---- the theme
 
@@ -309,7 +315,7 @@ grants_theme setup ok me = record {
         publish = λ from o polls owns there fit. record {
           counted = k.publish from o polls owns there fit;
           asked = a.publish from o polls owns there fit;
-          few = as_me AreFewGrants me next h s is (publish_events from o polls row s) (publish_alerts from o polls row s) (few_publish next from o polls row h s (marks_few setup ok me row counts h s base fact.asked o.chan) fact.few);
+          few = as_me AreFewGrants me next h s is (publish_events from o polls row s) (publish_alerts from o polls row s) (few_publish next from o polls row h s (marks_few setup ok me row h s base.keeps.stands fact.asked o.chan) fact.few);
         };
       };
 }

@@ -6,3 +6,6 @@ pub mod Channels
 pub mod LeavingLocal
 pub mod LeavingWhole
 pub mod ReachedOwners
+pub mod Drawing
+pub mod Between
+pub mod ReachedHistories

@@ -5,3 +5,4 @@
 
 pub mod histories;
 pub mod owners;
+pub mod pairs;
