@@ -1,0 +1,4 @@
+pub mod ToldPolls
+pub mod Seeing
+pub mod Sums
+pub mod Counting
