@@ -3,3 +3,5 @@ pub mod Granting
 pub mod Balancing
 pub mod Wholeness
 pub mod Holding
+pub mod Summing
+pub mod Counting
