@@ -1,0 +1,5 @@
+pub mod Begun
+pub mod Count
+pub mod Items
+pub mod Reads
+pub mod Told
