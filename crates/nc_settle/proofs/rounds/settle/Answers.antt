@@ -39,6 +39,7 @@ up_to P t f p j lt = by (near j t lt)
 
 pub loop-init : goal.loop-init
 loop-init g c = record {
+  sound = c.requires;
   goes_on = begins g.M.Machine.can g.M.Machine.worn g.M.Machine.moved g.M.Machine.idle (below c.args.turns) (g.M.Machine.seen c.args.machine.now);
   few = omega arith;
   each = omega arith;
@@ -46,6 +47,7 @@ loop-init g c = record {
 
 pub loop-turn-init : goal.loop-turn-init
 loop-turn-init g c = record {
+  sound = c.loop.invariant.sound;
   goes_on = goes_with g.M.Machine.can g.M.Machine.worn g.M.Machine.moved g.M.Machine.idle (below c.args.turns) (g.M.Machine.seen c.args.machine.now) c.loop.made (g.M.Machine.seen c.loop.machine) (below c.args.turns) (from_turn 0 c.args.turns) (sym (from_first c.args.turns)) c.loop.invariant.goes_on;
   few = c.loop.invariant.few;
   more = omega arith;
@@ -57,10 +59,10 @@ returns-then-made-n g c = elim c.then-made-n.branch [
   | then-made-n-via-then-made-n w ↦
       let e : Ends g.M.Machine.can g.M.Machine.worn g.M.Machine.moved g.M.Machine.idle (below c.args.turns) (g.M.Machine.seen c.args.machine.now) c.args.n c.args.n (g.M.Machine.seen c.loop-turn.machine) None = subst (λ (k : ℕ). Ends g.M.Machine.can g.M.Machine.worn g.M.Machine.moved g.M.Machine.idle (below c.args.turns) (g.M.Machine.seen c.args.machine.now) k k (g.M.Machine.seen c.loop-turn.machine) None) w.if-made-n.true
       (ends_made g.M.Machine.can g.M.Machine.worn g.M.Machine.moved g.M.Machine.idle (below c.args.turns) (g.M.Machine.seen c.args.machine.now) c.loop-turn.made (g.M.Machine.seen c.loop-turn.machine) (from_turn c.loop-turn.turn c.args.turns) c.loop-turn.invariant.goes_on) in
-      record { worn = sym e.meets; leaves = sym e.leaves }
+      record { sound = c.loop-turn.invariant.sound; worn = sym e.meets; leaves = sym e.leaves }
   | then-made-n-via-else-made-n+then-is_idle w ↦
       let e = ends_idle g.M.Machine.can g.M.Machine.worn g.M.Machine.moved g.M.Machine.idle (below c.args.turns) (g.M.Machine.seen c.args.machine.now) c.loop-turn.made (g.M.Machine.seen c.loop-turn.machine) c.args.n (from_turn c.loop-turn.turn c.args.turns) c.loop-turn.invariant.few (sym w.is_idle.ensures ∙ w.if-is_idle.true) c.loop-turn.invariant.goes_on in
-      record { worn = sym e.meets; leaves = sym e.leaves }
+      record { sound = c.loop-turn.invariant.sound; worn = sym e.meets; leaves = sym e.leaves }
 ]
 
 pub returns-in-Worn : goal.returns-in-Worn
@@ -68,6 +70,7 @@ returns-in-Worn g c =
     let told = worn_can (g.M.Machine.can (g.M.Machine.seen c.loop-turn.machine) c.loop-turn.turn) (g.M.Machine.worn (g.M.Machine.seen c.loop-turn.machine) c.loop-turn.turn) c.in_ok-try_turn.field-0 c.in_ok-try_turn.ensures.told c.in-Worn.is in
     let e = ends_worn g.M.Machine.can g.M.Machine.worn g.M.Machine.moved g.M.Machine.idle (below c.args.turns) (g.M.Machine.seen c.args.machine.now) c.loop-turn.made (g.M.Machine.seen c.loop-turn.machine) c.args.n c.loop-turn.turn c.args.turns c.loop-turn.invariant.few c.if-made-n.false c.loop-turn-test.true (sym c.is_idle.ensures ∙ c.if-is_idle.false) told.can_is (told.worn_is told.can_is) c.loop-turn.invariant.goes_on in
     record {
+      sound = c.in_ok-try_turn.ensures.sound;
       worn = sym e.meets;
       leaves = c.in_ok-try_turn.ensures.leaves ∙ ap (λ t. turn_leaves t (g.M.Machine.moved c.loop-turn.turn (g.M.Machine.seen c.loop-turn.machine)) (g.M.Machine.seen c.loop-turn.machine)) c.in-Worn.is ∙ sym e.leaves;
     }
@@ -78,6 +81,7 @@ loop-turn-preserved g c = elim c.match-branch-2.branch [
       let can = nothing_can (g.M.Machine.can (g.M.Machine.seen c.loop-turn.machine) c.loop-turn.turn) (g.M.Machine.worn (g.M.Machine.seen c.loop-turn.machine) c.loop-turn.turn) c.in_ok-try_turn.field-0 c.in_ok-try_turn.ensures.told w.in-Nothing.is in
       let next : g.M.Machine.seen c.try_turn.new.self ≡ g.M.Machine.seen c.loop-turn.machine = c.in_ok-try_turn.ensures.leaves ∙ ap (λ t. turn_leaves t (g.M.Machine.moved c.loop-turn.turn (g.M.Machine.seen c.loop-turn.machine)) (g.M.Machine.seen c.loop-turn.machine)) w.in-Nothing.is in
       record {
+        sound = c.in_ok-try_turn.ensures.sound;
         goes_on = lands g.M.Machine.can g.M.Machine.worn g.M.Machine.moved g.M.Machine.idle (below c.args.turns) (g.M.Machine.seen c.args.machine.now) c.loop-turn.made c.match-branch-2.made (sym w.made-is) (g.M.Machine.seen c.loop-turn.machine) (g.M.Machine.seen c.try_turn.new.self) (sym next) (from_turn (c.loop-turn.turn + 1) c.args.turns)
             (skip_on g.M.Machine.can g.M.Machine.worn g.M.Machine.moved g.M.Machine.idle (below c.args.turns) (g.M.Machine.seen c.args.machine.now) c.loop-turn.made (g.M.Machine.seen c.loop-turn.machine) c.loop-turn.turn c.args.turns c.loop-turn-test.true can c.loop-turn.invariant.goes_on);
         few = omega (arith, c.loop-turn.invariant.few, w.made-is);
@@ -88,6 +92,7 @@ loop-turn-preserved g c = elim c.match-branch-2.branch [
       let told = moved_can (g.M.Machine.can (g.M.Machine.seen c.loop-turn.machine) c.loop-turn.turn) (g.M.Machine.worn (g.M.Machine.seen c.loop-turn.machine) c.loop-turn.turn) c.in_ok-try_turn.field-0 c.in_ok-try_turn.ensures.told w.in-Moved.is in
       let next : g.M.Machine.seen c.try_turn.new.self ≡ g.M.Machine.moved c.loop-turn.turn (g.M.Machine.seen c.loop-turn.machine) = c.in_ok-try_turn.ensures.leaves ∙ ap (λ t. turn_leaves t (g.M.Machine.moved c.loop-turn.turn (g.M.Machine.seen c.loop-turn.machine)) (g.M.Machine.seen c.loop-turn.machine)) w.in-Moved.is in
       record {
+        sound = c.in_ok-try_turn.ensures.sound;
         goes_on = lands g.M.Machine.can g.M.Machine.worn g.M.Machine.moved g.M.Machine.idle (below c.args.turns) (g.M.Machine.seen c.args.machine.now) (c.loop-turn.made + 1) c.match-branch-2.made (sym w.made-is) (g.M.Machine.moved c.loop-turn.turn (g.M.Machine.seen c.loop-turn.machine)) (g.M.Machine.seen c.try_turn.new.self) (sym next) (from_turn (c.loop-turn.turn + 1) c.args.turns)
             (move_on g.M.Machine.can g.M.Machine.worn g.M.Machine.moved g.M.Machine.idle (below c.args.turns) (g.M.Machine.seen c.args.machine.now) c.loop-turn.made (g.M.Machine.seen c.loop-turn.machine) c.loop-turn.turn c.args.turns c.loop-turn-test.true (sym c.is_idle.ensures ∙ c.if-is_idle.false) told.can_is (told.worn_is told.can_is) c.loop-turn.invariant.goes_on);
         few = omega (arith, c.loop-turn.invariant.few, w.made-is, c.if-made-n.false);
@@ -102,12 +107,13 @@ returns-then-made-before g c =
     let e = ends_stopped g.M.Machine.can g.M.Machine.worn g.M.Machine.moved g.M.Machine.idle (below c.args.turns) (g.M.Machine.seen c.args.machine.now) c.loop-turn.made (g.M.Machine.seen c.loop-turn.machine) c.args.n (below c.args.turns) c.loop-turn.invariant.few
     (all_below (λ t. g.M.Machine.can (g.M.Machine.seen c.loop-turn.machine) t ≡ false) c.args.turns (λ j lt. c.loop-turn.invariant.none c.if-made-before.true j (omega (arith, lt, same))))
     (goes_with g.M.Machine.can g.M.Machine.worn g.M.Machine.moved g.M.Machine.idle (below c.args.turns) (g.M.Machine.seen c.args.machine.now) c.loop-turn.made (g.M.Machine.seen c.loop-turn.machine) (from_turn c.loop-turn.turn c.args.turns) (below c.args.turns) (ap (λ k. from_turn k c.args.turns) same ∙ from_last c.args.turns) c.loop-turn.invariant.goes_on) in
-    record { worn = sym e.meets; leaves = sym e.leaves }
+    record { sound = c.loop-turn.invariant.sound; worn = sym e.meets; leaves = sym e.leaves }
 
 pub loop-preserved : goal.loop-preserved
 loop-preserved g c =
     let same : c.loop-turn.turn ≡ c.args.turns = omega (arith, c.loop-turn-test.false, c.loop-turn.auto.turn-end) in
     record {
+      sound = c.loop-turn.invariant.sound;
       goes_on = goes_with g.M.Machine.can g.M.Machine.worn g.M.Machine.moved g.M.Machine.idle (below c.args.turns) (g.M.Machine.seen c.args.machine.now) c.loop-turn.made (g.M.Machine.seen c.loop-turn.machine) (from_turn c.loop-turn.turn c.args.turns) (below c.args.turns) (ap (λ k. from_turn k c.args.turns) same ∙ from_last c.args.turns) c.loop-turn.invariant.goes_on;
       few = c.loop-turn.invariant.few;
       each = omega (arith, c.loop.invariant.each, c.loop-turn.invariant.more, c.if-made-before.false);
@@ -118,4 +124,4 @@ returns g c =
     let all : c.loop.made ≡ c.args.n = omega (arith, c.loop.invariant.few, c.loop.invariant.each, c.loop-test.false) in
     let e : Ends g.M.Machine.can g.M.Machine.worn g.M.Machine.moved g.M.Machine.idle (below c.args.turns) (g.M.Machine.seen c.args.machine.now) c.args.n c.args.n (g.M.Machine.seen c.loop.machine) None = subst (λ (k : ℕ). Ends g.M.Machine.can g.M.Machine.worn g.M.Machine.moved g.M.Machine.idle (below c.args.turns) (g.M.Machine.seen c.args.machine.now) k k (g.M.Machine.seen c.loop.machine) None) all
     (ends_made g.M.Machine.can g.M.Machine.worn g.M.Machine.moved g.M.Machine.idle (below c.args.turns) (g.M.Machine.seen c.args.machine.now) c.loop.made (g.M.Machine.seen c.loop.machine) (below c.args.turns) c.loop.invariant.goes_on) in
-    record { worn = sym e.meets; leaves = sym e.leaves }
+    record { sound = c.loop.invariant.sound; worn = sym e.meets; leaves = sym e.leaves }

@@ -6,6 +6,7 @@ use Rattle.nc_settle.proofs.rounds.settle.Given as goal
 
 abbrev pub invariant-loop-turn : goal.invariant-loop-turn
 invariant-loop-turn g l = record {
+  sound : g.M.Machine.sound l.machine;
   goes_on : GoesOn g.M.Machine.can g.M.Machine.worn g.M.Machine.moved g.M.Machine.idle (below l.turns) (g.M.Machine.seen l.fn.machine) l.made (from_turn l.turn l.turns) (g.M.Machine.seen l.machine);
   few : l.made ≤ l.n;
   more : l.before ≤ l.made;
@@ -14,6 +15,7 @@ invariant-loop-turn g l = record {
 
 abbrev pub invariant-loop : goal.invariant-loop
 invariant-loop g l = record {
+  sound : g.M.Machine.sound l.machine;
   goes_on : GoesOn g.M.Machine.can g.M.Machine.worn g.M.Machine.moved g.M.Machine.idle (below l.turns) (g.M.Machine.seen l.fn.machine) l.made (below l.turns) (g.M.Machine.seen l.machine);
   few : l.made ≤ l.n;
   each : l.counter ≤ l.made;
