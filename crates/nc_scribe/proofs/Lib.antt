@@ -1,0 +1,4 @@
+pub mod Story
+pub mod Making
+pub mod Deeds
+pub mod Weaving

@@ -1,0 +1,4 @@
+pub mod Kinds
+pub mod Story
+pub mod Scribe
+pub mod Weaving
