@@ -1,0 +1,22 @@
+-- Laws of members in reached worlds.
+use Rattle.std.specs.Prelude.{◌≡◌, ℕ, List, []}
+use Rattle.nc_types.specs.Channel.{owner_of}
+use Rattle.nc_journal.specs.History.{own}
+use Rattle.nc_journal.specs.declared.event.Event.{Event}
+use Rattle.nc_owner_laws.specs.Filters.{is_member}
+use Rattle.nc_spool_members.specs.Members.{stands_with}
+use Rattle.nc_history.specs.Packets.{pending}
+use Rattle.nc_worker_state.specs.Setup.{Setup}
+use Rattle.nc_worker_state.specs.Owned.{member_of}
+use Rattle.nc_world.specs.World.{World}
+use Rattle.nc_world.specs.Reached.{IsSetup, Reached}
+use Rattle.nc_world_members.specs.Members.{HasMembers, spools_at}
+
+-- each reached world has its members
+abbrev pub ReachedHasMembers : Type 0
+ReachedHasMembers = (setup : Setup) (h : List Event) (world : World) → IsSetup setup → Reached setup h world → HasMembers setup h world
+
+-- where nothing is on its way from a worker to a channel's owner, the members of this worker are those who stand or start with the channel
+abbrev pub MembersStand : Type 0
+MembersStand = (setup : Setup) (h : List Event) (world : World) → IsSetup setup → Reached setup h world → (w k : ℕ) (c : List ℕ) → pending w (owner_of setup.workers c) h ≡ []
+    → is_member c (member_of w k) (own (owner_of setup.workers c) h) ≡ stands_with c k (spools_at world w)
