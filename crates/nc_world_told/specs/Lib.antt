@@ -1,0 +1,4 @@
+pub mod Written
+pub mod Readers
+pub mod Known
+pub mod Laws
