@@ -1,0 +1,5 @@
+pub mod Fitting
+pub mod Busy
+pub mod Steps
+pub mod Cutting
+pub mod Following
