@@ -2,3 +2,5 @@ pub mod Weights
 pub mod Weighing
 pub mod Telling
 pub mod Singles
+pub mod Quiet
+pub mod Staging
