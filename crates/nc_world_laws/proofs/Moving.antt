@@ -10,11 +10,12 @@ use Rattle.nc_owner_laws.proofs.HoldsKept as holding_laws
 use Rattle.nc_history.specs.Packets.{Packet, kind_of}
 use Rattle.nc_worker_state.specs.Setup.{Setup}
 use Rattle.nc_worker_state.specs.Incoming.{Incoming, TakesPacket, ClockReads, Reaps, Posts, Subscribes, Informs}
-use Rattle.nc_world.specs.World.{World, new_world, handled_events, pending_in}
+use Rattle.nc_world.specs.World.{World, new_world, handled_events, handled, pending_in}
 use Rattle.nc_world.specs.Moves.{Move, Handles, Carries, Takes, Counts, Rests, counted, rested, taken_events, taken, move_events, moved, with_ring}
 use Rattle.nc_world.specs.Reached.{IsSetup, IsInput, IsMove, Begins, Moves}
 use Rattle.nc_world_laws.specs.Good.{Good, IsLineTo, AreLinesTo}
 use Rattle.nc_world_laws.specs.Kinds.{IsUntaken}
+use Rattle.nc_world_laws.specs.Outside.{IsOutside}
 use Rattle.nc_world_laws.specs.OwnerTheme.{IsOwnerTheme}
 use Rattle.nc_world_laws.specs.Laws.{ReachedIsGood}
 use Rattle.nc_world_laws.proofs.Local.{eqb_self, own_one}
@@ -36,6 +37,14 @@ keeps_theme setup me = record {
 pub taken_right : (setup : Setup) (w v : ℕ) (p : Packet) (ps : List Packet) (h : List Event) (world : World) → Good setup h world → world.rings v w ≡ p ∷ ps → IsLineTo setup.workers w p.line
 taken_right setup w v p ps h world g is = (subst (AreLinesTo setup.workers w) (first_pending setup w v p ps h world g is) (g.lines v w)).0
 
+outside : (w : ℕ) (incoming : Incoming) (h : List Event) → IsInput w h incoming → IsOutside incoming
+outside w (TakesPacket from p) h i = i
+outside w (ClockReads t) h i = tt
+outside w Reaps h i = tt
+outside w (Posts c body) h i = tt
+outside w (Subscribes k list start) h i = tt
+outside w (Informs c) h i = tt
+
 module _ (setup : Setup) (is : IsSetup setup) where
   -- ---- a worker handles something
 
@@ -55,13 +64,17 @@ module _ (setup : Setup) (is : IsSetup setup) where
       knows = (served_well setup is w incoming (world.workers w).desk (g.knows w)).1;
     }
 
-  input_acts : (w : ℕ) (incoming : Incoming) (h : List Event) (world : World) → Good setup h world → IsInput w h incoming → ActsWell setup w h world (handled_events setup w incoming world) (owns w incoming world) (serves setup w incoming world)
+  input_acts : (w : ℕ) (incoming : Incoming) (h : List Event) (world : World) → Good setup h world → IsOutside incoming → ActsWell setup w h world (handled_events setup w incoming world) (owns w incoming world) (serves setup w incoming world)
   input_acts w (TakesPacket from p) h world g i = absurd i
   input_acts w (ClockReads t) h world g i = whole w (ClockReads t) h world g tt (tt, rest_untaken setup is w (ClockReads t) h world g) (rest_numbered setup is w (ClockReads t) h world g) (tt, rest_right setup is w (ClockReads t) h world g)
   input_acts w Reaps h world g i = whole w Reaps h world g tt (rest_untaken setup is w Reaps h world g) (rest_numbered setup is w Reaps h world g) (rest_right setup is w Reaps h world g)
   input_acts w (Posts c body) h world g i = whole w (Posts c body) h world g tt (tt, rest_untaken setup is w (Posts c body) h world g) (rest_numbered setup is w (Posts c body) h world g) (tt, rest_right setup is w (Posts c body) h world g)
   input_acts w (Subscribes k list start) h world g i = whole w (Subscribes k list start) h world g tt (tt, rest_untaken setup is w (Subscribes k list start) h world g) (rest_numbered setup is w (Subscribes k list start) h world g) (tt, rest_right setup is w (Subscribes k list start) h world g)
   input_acts w (Informs c) h world g i = whole w (Informs c) h world g tt (tt, rest_untaken setup is w (Informs c) h world g) (rest_numbered setup is w (Informs c) h world g) (tt, rest_right setup is w (Informs c) h world g)
+
+  -- so what comes from outside keeps what is good, whatever it is
+  pub outside_good : (w : ℕ) (incoming : Incoming) (h : List Event) (world : World) → Good setup h world → IsOutside incoming → Good setup (onto (handled_events setup w incoming world) h) (handled setup w incoming world)
+  outside_good w incoming h world g o = acts setup w h world (handled_events setup w incoming world) (owns w incoming world) (serves setup w incoming world) g (input_acts w incoming h world g o)
 
   -- a worker takes a packet: behind the event that tells it
   packet_acts : (w v : ℕ) (p : Packet) (ps : List Packet) (h : List Event) (world : World) → v < setup.workers → world.rings v w ≡ p ∷ ps → Good setup h world
@@ -99,7 +112,7 @@ module _ (setup : Setup) (is : IsSetup setup) where
   rests_good (suc n) h world g = g
 
   pub move_good : (m : Move) (h : List Event) (world : World) → Good setup h world → IsMove setup h m → Good setup (onto (move_events setup m world) h) (moved setup m world)
-  move_good (Handles w incoming) h world g i = acts setup w h world (handled_events setup w incoming world) (owns w incoming world) (serves setup w incoming world) g (input_acts w incoming h world g i.1)
+  move_good (Handles w incoming) h world g i = outside_good w incoming h world g (outside w incoming h i.1)
   move_good (Carries w v) h world g i = carried_good setup w v ((world.workers w).outbox v) h world refl g
   move_good (Takes w v) h world g i = taken_good w v (world.rings v w) h world i.1 refl g
   move_good Counts h world g i = counts_good (pending_in setup world) h world g

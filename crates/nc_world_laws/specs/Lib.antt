@@ -3,3 +3,4 @@ pub mod Good
 pub mod WorldTheme
 pub mod OwnerTheme
 pub mod Laws
+pub mod Outside
