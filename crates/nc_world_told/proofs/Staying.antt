@@ -60,7 +60,7 @@ module _ (me : ℕ) (cause : EndedCause) (next : ℕ → ℕ) (h : List Event) w
         still d key b r rs other.1 stand.1,
       )
 
-  out_away : (k : ℕ) (f : Fact) → IsOut f → IsAway k f
+  pub out_away : (k : ℕ) (f : Fact) → IsOut f → IsAway k f
   out_away k (facts.Out o) p = tt
   out_away k (facts.Started n cursor) p = absurd p
   out_away k (facts.Sent s) p = absurd p

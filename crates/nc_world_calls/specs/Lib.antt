@@ -1,0 +1,3 @@
+pub mod Answering
+pub mod Noticing
+pub mod Arriving

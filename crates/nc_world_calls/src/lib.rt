@@ -1,0 +1,10 @@
+//! The calls of a worker's spools on a history: the answer to a look, a notice, and a subscriber that comes. Each writes only
+//! lawful sends, leaves each subscriber standing at the key of its spool, and keeps what is so of each place. There is no code
+//! here: each function does nothing, and its contract is a law.
+//!
+//! Below is what a call writes (`nc_world_told`); above, the worlds whose workers make these calls.
+#![tactic(auto)]
+
+mod answers;
+mod arrivals;
+mod notices;
