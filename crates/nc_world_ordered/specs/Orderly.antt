@@ -1,0 +1,42 @@
+-- The order of subscribers' events, over the steps of a worker's spools.
+use Rattle.std.specs.Prelude.{◌≡◌, ℕ, Bool, List, Option}
+use Rattle.std.specs.List.{AllByRecursion}
+use Rattle.nc_types.specs.declared.start.Start.{Start}
+use Rattle.nc_types.specs.declared.start.Start.TheVariants.{Newest}
+use Rattle.nc_journal.specs.History.{own, onto}
+use Rattle.nc_journal.specs.Standing.{Starting, stage_of, AreOrdered, NobodyServed}
+use Rattle.nc_journal.specs.declared.event.Event.{Event}
+use Rattle.nc_spool.specs.declared.spools.Found.{Found}
+use Rattle.nc_spool.specs.Calls.{SpoolsAt, board_of}
+use Rattle.nc_spool_laws.specs.Tally.{StandOnce}
+use Rattle.nc_worker_state.specs.Deed.{told}
+use Rattle.nc_worker_state.specs.Spooled.{Hold, arrives, answers, notices}
+use Rattle.nc_world_told.specs.Readers.{StandHere}
+
+-- the events stand in order, and nobody was served without having ended
+pub record IsOrderly (h : List Event) : Type 0 where
+  pub ordered : AreOrdered h
+  pub ended : NobodyServed h
+
+-- each subscriber of a worker's spools stands by the history at the key of its spool
+abbrev pub AllStand : ℕ → List Event → SpoolsAt Hold → Type 0
+AllStand me h s = AllByRecursion (λ x. StandHere me x h) s.shelf
+
+-- an answer, behind what stands before
+abbrev pub AnswerOrderly : Type 0
+AnswerOrderly = (me number q floor : ℕ) (found : Option (Found Hold)) (next : ℕ → ℕ) (h : List Event) (s : SpoolsAt Hold) → StandOnce (board_of s) → AllStand me h s
+    → IsOrderly h → IsOrderly (onto (told me next (answers me number q floor found s).deeds) h)
+
+abbrev pub NoticeOrderly : Type 0
+NoticeOrderly = (me : ℕ) (c : List ℕ) (found : Found Hold) (next : ℕ → ℕ) (h : List Event) (s : SpoolsAt Hold) → StandOnce (board_of s) → AllStand me h s
+    → IsOrderly h → IsOrderly (onto (told me next (notices me c found s).deeds) h)
+
+-- one doesn't begin behind the newest message
+abbrev pub IsKnownStart : Start → Type 0
+IsKnownStart Newest = ⊥
+IsKnownStart start = Unit {0}
+
+-- a subscriber that subscribed comes
+abbrev pub ArrivalOrderly : Type 0
+ArrivalOrderly = (me k : ℕ) (list : List (List ℕ)) (start : Start) (once : Bool) (next : ℕ → ℕ) (h : List Event) (s : SpoolsAt Hold) → IsKnownStart start → stage_of k (own me h) ≡ Starting list once start
+    → IsOrderly h → IsOrderly (onto (told me next (arrives me k list start once s).deeds) h)
