@@ -1,3 +1,4 @@
 pub mod Rows
 pub mod Polls
 pub mod Openings
+pub mod Messages

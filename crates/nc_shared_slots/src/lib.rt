@@ -9,6 +9,7 @@
 
 mod handle;
 mod hold;
+pub mod laws;
 mod naming;
 mod opened;
 mod row;
