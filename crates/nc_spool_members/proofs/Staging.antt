@@ -435,9 +435,9 @@ eqb_same : (n : ℕ) → (n == n) ≡ true
 eqb_same n = grind (arith, nat_tests)
 
 -- who comes was in hand
-comes-in : {H : Type 0} (k : ℕ) (stage : Stage) (list : List (List ℕ)) (start : Start) (once : Bool) (s : SpoolsAt H) → HasStage k stage stage (board_of s) → stands k (board_of s) ≡ 0
+comes-in : {H : Type 0} (k : ℕ) (list : List (List ℕ)) (start : Start) (once : Bool) (s : SpoolsAt H) → stands k (board_of s) ≡ 0
     → HasStage k Over (stage_told k (Starting list once start) (arrive_board k list start once s).facts) (arrive_board k list start once s)
-comes-in k stage list start once s has none =
+comes-in k list start once s none =
     let r : Reader = record { k = k; once = once } in
     let before : Stage = Starting list once start in
     staged k Over _ _ (arrived-at k Over before 0 start r list (board_of s) (λ e. refl) (record {
@@ -454,5 +454,5 @@ comes-in k stage list start once s has none =
 pub keep-stages : (H : Type 0) → KeepStages H
 keep-stages H = record {
   calls = λ k out stage s has. calls-stage k out stage s has;
-  comes = λ k stage list start once s has none. let c = comes-in k stage list start once s has none in record { few = c.few; over = c.over; standing = c.standing; starting = c.starting; away = c.away };
+  comes = λ k list start once s none. let c = comes-in k list start once s none in record { few = c.few; over = c.over; standing = c.standing; starting = c.starting; away = c.away };
 }

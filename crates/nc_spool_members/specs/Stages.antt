@@ -62,5 +62,4 @@ module _ {H : Type 0} (k : ℕ) (out stage : Stage) (s : SpoolsAt H) where
 -- each call leaves each subscriber the stage that the spools say; one that comes was subscribed before
 pub record KeepStages (H : Type 0) : Type 0 where
   pub calls : (k : ℕ) (out stage : Stage) (s : SpoolsAt H) → HasStage k out stage (board_of s) → CallsStage k out stage s
-  pub comes : (k : ℕ) (stage : Stage) (list : List (List ℕ)) (start : Start) (once : Bool) (s : SpoolsAt H) → HasStage k stage stage (board_of s) → stands k (board_of s) ≡ 0
-      → HasStage k Over (stage_told k (Starting list once start) (arrive_facts k list start once s)) (board_of (arrive_after k list start once s))
+  pub comes : (k : ℕ) (list : List (List ℕ)) (start : Start) (once : Bool) (s : SpoolsAt H) → stands k (board_of s) ≡ 0 → HasStage k Over (stage_told k (Starting list once start) (arrive_facts k list start once s)) (board_of (arrive_after k list start once s))

@@ -3,3 +3,5 @@ pub mod Hearing
 pub mod Desks
 pub mod Stepping
 pub mod Moving
+pub mod Deeds
+pub mod Staging

@@ -222,11 +222,11 @@ module _ (setup : Setup) (is : IsSetup setup) where
   members_theme : IsWorldTheme setup (HasMembers setup)
   members_theme = record {
     new = record { members = λ w k c. refl; singly = λ w. record { once = λ k. omega arith; fit = (tt, tt) }; known = λ w k e. refl };
-    handles = λ w incoming h world g here i has. handles_has w incoming h world g i has;
-    takes = λ w v p ps h world g here there at has. takes_has w v p ps h world g at has;
-    carries = λ w v p ps h world g here there at has. carries_has w v p ps h world has;
-    pending = λ n h world g same has. record { members = has.members; singly = has.singly; known = has.known };
-    quiet = λ h world g same has. record { members = has.members; singly = has.singly; known = has.known };
+    handles = λ w incoming h world reached g here i has. handles_has w incoming h world g i has;
+    takes = λ w v p ps h world reached g here there at has. takes_has w v p ps h world g at has;
+    carries = λ w v p ps h world reached g here there at has. carries_has w v p ps h world has;
+    pending = λ n h world reached g same has. record { members = has.members; singly = has.singly; known = has.known };
+    quiet = λ h world reached g same has. record { members = has.members; singly = has.singly; known = has.known };
   }
 
 pub reached_has_members : ReachedHasMembers

@@ -157,7 +157,7 @@ module _ (setup : Setup) (is : IsSetup setup) (x : ℕ) (incoming : Incoming) (h
   before_subscribed k (Subscribes n list start) l = refl
   before_subscribed k (Informs c) l = refl
 
-  subscribed_here : (k : ℕ) → is_subscribed k (onto events (own x h)) ≡ comes incoming k || is_subscribed k (own x h)
+  pub subscribed_here : (k : ℕ) → is_subscribed k (onto events (own x h)) ≡ comes incoming k || is_subscribed k (own x h)
   subscribed_here k =
       let first = onto (before setup x incoming world) (own x h) in
       ap (is_subscribed k) (handled_onto setup is x incoming h world g (own x h))

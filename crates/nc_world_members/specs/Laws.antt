@@ -2,6 +2,7 @@
 use Rattle.std.specs.Prelude.{◌≡◌, ℕ, List, []}
 use Rattle.nc_types.specs.Channel.{owner_of}
 use Rattle.nc_journal.specs.History.{own}
+use Rattle.nc_journal.specs.Standing.{IsServed, stage_of}
 use Rattle.nc_journal.specs.declared.event.Event.{Event}
 use Rattle.nc_owner_laws.specs.Filters.{is_member}
 use Rattle.nc_spool_members.specs.Members.{stands_with}
@@ -11,6 +12,7 @@ use Rattle.nc_worker_state.specs.Owned.{member_of}
 use Rattle.nc_world.specs.World.{World}
 use Rattle.nc_world.specs.Reached.{IsSetup, Reached}
 use Rattle.nc_world_members.specs.Members.{HasMembers, spools_at}
+use Rattle.nc_world_members.specs.Stages.{HasStages, is_with}
 
 -- each reached world has its members
 abbrev pub ReachedHasMembers : Type 0
@@ -20,3 +22,17 @@ ReachedHasMembers = (setup : Setup) (h : List Event) (world : World) → IsSetup
 abbrev pub MembersStand : Type 0
 MembersStand = (setup : Setup) (h : List Event) (world : World) → IsSetup setup → Reached setup h world → (w k : ℕ) (c : List ℕ) → pending w (owner_of setup.workers c) h ≡ []
     → is_member c (member_of w k) (own (owner_of setup.workers c) h) ≡ stands_with c k (spools_at world w)
+
+-- each reached world has its stages
+abbrev pub ReachedHasStages : Type 0
+ReachedHasStages = (setup : Setup) (h : List Event) (world : World) → IsSetup setup → Reached setup h world → HasStages h world
+
+-- by the journal alone: where nothing is on its way from a worker to a channel's owner, the members of this worker are those who stand or start with
+-- the channel
+abbrev pub MembersByStages : Type 0
+MembersByStages = (setup : Setup) (h : List Event) (world : World) → IsSetup setup → Reached setup h world → (w k : ℕ) (c : List ℕ) → pending w (owner_of setup.workers c) h ≡ []
+    → is_member c (member_of w k) (own (owner_of setup.workers c) h) ≡ is_with c (stage_of k (own w h))
+
+-- and nobody who was sent its one message waits for its end
+abbrev pub NobodyWaits : Type 0
+NobodyWaits = (setup : Setup) (h : List Event) (world : World) → IsSetup setup → Reached setup h world → (w k : ℕ) → IsServed (stage_of k (own w h)) → ⊥

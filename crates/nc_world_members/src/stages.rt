@@ -1,0 +1,18 @@
+//! The stages of subscribers.
+ghost use Rattle.nc_world_members.specs.Laws.{ReachedHasStages, MembersByStages, NobodyWaits};
+
+/// Each subscriber's stage by the journal is the one that the spools of its worker say.
+pub fn reached_has_stages()
+    ensures { ReachedHasStages }
+{}
+
+/// Where nothing is on its way from a worker to the owner of a channel, the members of this worker are those who stand or start
+/// with it by the journal.
+pub fn members_by_stages()
+    ensures { MembersByStages }
+{}
+
+/// Between two steps nobody who was sent its one message waits for its end.
+pub fn nobody_waits()
+    ensures { NobodyWaits }
+{}
