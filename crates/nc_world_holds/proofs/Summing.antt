@@ -42,7 +42,7 @@ bounded (Released w owner g slot ∷ h) = bounded_more h (Released w owner g slo
 bounded (e ∷ h) = let r = bounded h in record { bound = r.bound; all = (tt, r.all) }
 
 -- one term of a sum is one more
-sum_same : (f g : ℕ → ℕ) (n : ℕ) → ((x : ℕ) → f x ≡ g x) → sum_below f n ≡ sum_below g n
+pub sum_same : (f g : ℕ → ℕ) (n : ℕ) → ((x : ℕ) → f x ≡ g x) → sum_below f n ≡ sum_below g n
 sum_same f g zero s = refl
 sum_same f g (suc n) s = omega (arith, sum_same f g n s, s n)
 
@@ -81,7 +81,7 @@ module _ (o s : ℕ) where
   abbrev of_slot : ℕ → ℕ → Bool
   of_slot g slot = slot == s
 
-  grant_term : (f : ℕ → ℕ) (a c : Bool) (k n : ℕ) → k < n → sum_below (λ x. cond ((a && (k == x)) && c) (f x + 1) (f x)) n ≡ cond (a && c) (sum_below f n + 1) (sum_below f n)
+  pub grant_term : (f : ℕ → ℕ) (a c : Bool) (k n : ℕ) → k < n → sum_below (λ x. cond ((a && (k == x)) && c) (f x + 1) (f x)) n ≡ cond (a && c) (sum_below f n + 1) (sum_below f n)
   grant_term f true true k n lt = sum_same _ (λ x. cond (k == x) (f x + 1) (f x)) n (λ x. ap (λ b. cond b (f x + 1) (f x)) (and_true (k == x))) ∙ one_more f k n lt
     where
       and_true : (b : Bool) → ((true && b) && true) ≡ b
@@ -116,7 +116,7 @@ module _ (o s : ℕ) where
       ∙ ap (λ m. cond ((owner == o) && (slot == s)) (m + 1) m) (released_sum n h a.1)
   released_sum n (e ∷ h) a = released_sum n h a.1
 
-  sum_below_each : (f g : ℕ → ℕ) (n : ℕ) → ((x : ℕ) → f x ≤ g x) → sum_below f n ≤ sum_below g n
+  pub sum_below_each : (f g : ℕ → ℕ) (n : ℕ) → ((x : ℕ) → f x ≤ g x) → sum_below f n ≤ sum_below g n
   sum_below_each f g zero le = omega arith
   sum_below_each f g (suc n) le = omega (arith, sum_below_each f g n le, le n)
 

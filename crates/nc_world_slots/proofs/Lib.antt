@@ -1,0 +1,5 @@
+pub mod Within
+pub mod Freeing
+pub mod Once
+pub mod Carried
+pub mod Releasing
