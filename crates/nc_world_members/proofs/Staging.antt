@@ -32,8 +32,8 @@ use Rattle.nc_world_laws.proofs.Parts.{owns, serves, before, part}
 use Rattle.nc_world_laws.proofs.Frames.{own_handled, handled_onto, part_stage}
 use Rattle.nc_world_laws.proofs.WorldThemes.{world_theme_holds}
 use Rattle.nc_world_members.specs.Members.{spools_at}
-use Rattle.nc_world_members.specs.Stages.{stage_away, HasStages, is_with}
-use Rattle.nc_world_members.specs.Laws.{ReachedHasStages, MembersByStages, NobodyWaits}
+use Rattle.nc_world_members.specs.Stages.{stage_away, HasStages, AllStand, Starts, is_with}
+use Rattle.nc_world_members.specs.Laws.{ReachedHasStages, SpoolsStand, MembersByStages, NobodyWaits}
 use Rattle.nc_world_members.proofs.Stepping.{subscribed_here}
 use Rattle.nc_world_members.proofs.Deeds.{stage_done, told_stage, stage_opened, away_stage, IsFresh, served_stays}
 use Rattle.nc_world_members.proofs.Moving.{members_stand}
@@ -129,6 +129,26 @@ module _ (setup : Setup) (is : IsSetup setup) where
 
 pub reached_has_stages : ReachedHasStages
 reached_has_stages setup h world is r = world_theme_holds setup HasStages is (stages_theme setup is) h world r
+
+-- ---- all of a worker's spools
+
+module _ (w : ℕ) (h : List Event) where
+  readers_stand : (key : KeyAt) (readers : List Reader) → ((k : ℕ) → AllByRecursion (ReaderStands k (stage_of k (own w h)) key) readers) → AllByRecursion (λ (r : Reader). stage_of r.k (own w h) ≡ Standing key.list r.once key.cursor) readers
+  readers_stand key [] each = tt
+  readers_stand key (r ∷ readers) each = ((each r.k).0 (eqb_self r.k), readers_stand key readers (λ k. (each k).1))
+
+  shelf_stands : (shelf : List SpoolAt) → ((k : ℕ) → AllByRecursion (SpoolStands k (stage_of k (own w h))) shelf) → AllByRecursion (AllStand w h) shelf
+  shelf_stands [] each = tt
+  shelf_stands (s ∷ shelf) each = (readers_stand s.key s.readers (λ k. (each k).0), shelf_stands shelf (λ k. (each k).1))
+
+  starts_start : (sts : List StartingAt) → ((k : ℕ) → AllByRecursion (StartStarts k (stage_of k (own w h))) sts) → AllByRecursion (Starts w h) sts
+  starts_start [] each = tt
+  starts_start (s ∷ sts) each = ((each s.reader.k).0 (eqb_self s.reader.k), starts_start sts (λ k. (each k).1))
+
+pub spools_stand : SpoolsStand
+spools_stand setup h world is r w =
+    let has = reached_has_stages setup h world is r in
+    (shelf_stands w h (spools_at world w).shelf (λ k. (has.staged w k).standing), starts_start w h (spools_at world w).starts (λ k. (has.staged w k).starting))
 
 -- ---- who stands with a channel, by its stage
 

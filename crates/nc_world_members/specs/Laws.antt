@@ -1,5 +1,6 @@
 -- Laws of members in reached worlds.
 use Rattle.std.specs.Prelude.{◌≡◌, ℕ, List, []}
+use Rattle.std.specs.List.{AllByRecursion}
 use Rattle.nc_types.specs.Channel.{owner_of}
 use Rattle.nc_journal.specs.History.{own}
 use Rattle.nc_journal.specs.Standing.{IsServed, stage_of}
@@ -12,7 +13,7 @@ use Rattle.nc_worker_state.specs.Owned.{member_of}
 use Rattle.nc_world.specs.World.{World}
 use Rattle.nc_world.specs.Reached.{IsSetup, Reached}
 use Rattle.nc_world_members.specs.Members.{HasMembers, spools_at}
-use Rattle.nc_world_members.specs.Stages.{HasStages, is_with}
+use Rattle.nc_world_members.specs.Stages.{HasStages, AllStand, Starts, is_with}
 
 -- each reached world has its members
 abbrev pub ReachedHasMembers : Type 0
@@ -26,6 +27,10 @@ MembersStand = (setup : Setup) (h : List Event) (world : World) → IsSetup setu
 -- each reached world has its stages
 abbrev pub ReachedHasStages : Type 0
 ReachedHasStages = (setup : Setup) (h : List Event) (world : World) → IsSetup setup → Reached setup h world → HasStages h world
+
+-- so each subscriber of each spool stands, and each of those that aren't started yet starts
+abbrev pub SpoolsStand : Type 0
+SpoolsStand = (setup : Setup) (h : List Event) (world : World) → IsSetup setup → Reached setup h world → (w : ℕ) → AllByRecursion (AllStand w h) (spools_at world w).shelf × AllByRecursion (Starts w h) (spools_at world w).starts
 
 -- by the journal alone: where nothing is on its way from a worker to a channel's owner, the members of this worker are those who stand or start with
 -- the channel

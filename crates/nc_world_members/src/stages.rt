@@ -1,9 +1,14 @@
 //! The stages of subscribers.
-ghost use Rattle.nc_world_members.specs.Laws.{ReachedHasStages, MembersByStages, NobodyWaits};
+ghost use Rattle.nc_world_members.specs.Laws.{ReachedHasStages, SpoolsStand, MembersByStages, NobodyWaits};
 
 /// Each subscriber's stage by the journal is the one that the spools of its worker say.
 pub fn reached_has_stages()
     ensures { ReachedHasStages }
+{}
+
+/// Each subscriber in a spool stands by the journal with the list of the spool, at its cursor.
+pub fn spools_stand()
+    ensures { SpoolsStand }
 {}
 
 /// Where nothing is on its way from a worker to the owner of a channel, the members of this worker are those who stand or start
