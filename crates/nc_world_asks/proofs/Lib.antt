@@ -1,0 +1,4 @@
+pub mod Drawn
+pub mod Counted
+pub mod Unlooked
+pub mod Reaching
