@@ -3,4 +3,5 @@ pub mod Weighing
 pub mod Telling
 pub mod Singles
 pub mod Quiet
+pub mod Leaving
 pub mod Staging

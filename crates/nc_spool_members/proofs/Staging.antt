@@ -1,5 +1,5 @@
 -- Each call leaves a subscriber the stage that the spools say.
-use Rattle.std.proofs.Common.{◌≡◌, ℕ, ◌+◌, ◌≤◌, Bool, true, false, cond, List, [], ◌∷◌, ◌++◌, refl, sym, ap, ◌∙◌, subst, arith, Option, Some, None, find, insert, length, ◌==◌}
+use Rattle.std.proofs.Common.{◌≡◌, ℕ, ◌+◌, ◌≤◌, Bool, true, false, cond, not, List, [], ◌∷◌, ◌++◌, refl, sym, ap, ◌∙◌, subst, arith, Option, Some, None, find, insert, length, ◌==◌}
 use Rattle.std.specs.Prelude.{fold}
 use Rattle.std.specs.List.{AllByRecursion}
 use Rattle.std.specs.Option.{option_map}
@@ -23,11 +23,11 @@ use Rattle.nc_spool_state.specs.declared.edge.Edge.{Edge}
 use Rattle.nc_spool_state.specs.declared.edge.Edge.TheVariants.{Known}
 use Rattle.nc_spool_state.specs.Key.{KeyAt, name_at, id_at, place_of}
 use Rattle.nc_spool_state.specs.Place.{place_awaiting}
-use Rattle.nc_spool_state.specs.Spool.{SpoolAt, is_of, is_reader, awaits, with_reader, place_above, place_at, with_place}
-use Rattle.nc_spool_state.specs.Shelf.{spool_of, without_first, place_before, keys_with}
+use Rattle.nc_spool_state.specs.Spool.{SpoolAt, is_of, is_reader, awaits, has_reader, with_reader, without_reader, place_above, place_at, with_place}
+use Rattle.nc_spool_state.specs.Shelf.{spool_of, without_first, place_before, with_spool, with_read_spool, keys_with}
 use Rattle.nc_spool_state.specs.Choice.{choice}
 use Rattle.nc_spool_state.specs.Edge.{is_any_awaited, is_any_behind, newest_cursor, edge_awaiting}
-use Rattle.nc_spool_state.specs.Hear.{learned, notice_says}
+use Rattle.nc_spool_state.specs.Hear.{learned, notice_says, gone_says}
 use Rattle.nc_spool_state.specs.Starting.{StartingAt, with_edge, start_awaits, starts_with}
 use Rattle.nc_spool.specs.declared.ask.Asking.{Asking}
 use Rattle.nc_spool.specs.declared.fact.Fact.{Fact}
@@ -35,7 +35,8 @@ use Rattle.nc_spool.specs.declared.fact.Fact.TheVariants as facts
 use Rattle.nc_spool.specs.declared.board.Board.{Board}
 use Rattle.nc_spool.specs.Board.{told, shelved, asked_from, fresh_spool, standing, opened, entered, ended}
 use Rattle.nc_spool.specs.Decide.{fence_looks, fenced_places, delivery, sending, sent_one, decided, decided_by}
-use Rattle.nc_spool.specs.Hear.{looked_again, heeded, noticed_at, noticed_by, noticed_in, noticed_place, answered, answered_by, answered_in, answered_at}
+use Rattle.nc_spool.specs.Hear.{looked_again, heeded, noticed_at, noticed_by, noticed_in, noticed_place, emptied_at, emptied_by, emptied_in, emptied_place, answered, answered_by, answered_in, answered_at}
+use Rattle.nc_spool.specs.Depart.{other_names, names_with, names_by, start_names, left, left_by, departed, departed_by, member_gone, member_gone_by, gone}
 use Rattle.nc_spool.specs.Arrive.{oldest_cursor, joined, started_by, arrived}
 use Rattle.nc_spool.specs.Newest.{begun, parked, fresh_edges, behind_edges, edges_from, edges_behind, second_by, answered_all, went_on, edge_heard, edge_heard_at, edge_answered, edge_answered_by}
 use Rattle.nc_spool.specs.Calls.{SpoolsAt, board_of, news_of, arrive_board}
@@ -48,6 +49,7 @@ use Rattle.nc_spool_laws.proofs.Same.{asked-shelf, asked-starts, parted-shelf, p
 use Rattle.nc_spool_laws.proofs.SameKey.{key_same}
 use Rattle.nc_spool_members.specs.Stages.{stage_by, stage_told, ReaderStands, SpoolStands, StartStarts, HasStage, CallsStage, KeepStages}
 use Rattle.nc_spool_members.proofs.Quiet as quiet
+use Rattle.nc_spool_members.proofs.Leaving.{leaves-readers, no-readers, all-kept}
 
 module _ (k : ℕ) where
   -- ---- who is nowhere has any stage there
@@ -392,6 +394,94 @@ module _ (k : ℕ) (out begin : Stage) where
       by (Some s) was = edge_heard-at n number edge s (out_start (start_awaits number) b) (all-found (StartStarts k (now b)) (start_awaits number) b.starts s was p.start)
           (take_start k out n (now b) (start_awaits number) s b.shelf b.starts was p)
 
+-- ---- leaving
+
+module _ (k : ℕ) (out begin : Stage) where
+  abbrev stage_now : Board → Stage
+  stage_now b = stage_told k begin b.facts
+
+  abbrev Here : ℕ → Board → Type 0
+  Here n b = Placed k out n (stage_now b) b.shelf b.starts
+
+  -- who is there is in hand once it left
+  abbrev in_hand : ℕ → Option (List (List ℕ)) → ℕ
+  in_hand j None = 0
+  in_hand j (Some names) = one (j == k)
+
+  back-at : (n : ℕ) (s : SpoolAt) (b : Board) → Here (readers_of k s + n) b → SpoolStands k (stage_now b) s → Here n (record b { shelf = with_read_spool s b.shelf })
+  back-at n s b p each = by (length s.readers == 0) refl
+    where
+      by : (t : Bool) → (length s.readers == 0) ≡ t → Placed k out n (stage_now b) (cond t b.shelf (with_spool s b.shelf)) b.starts
+      by true was = renumber k out (readers_of k s + n) n (stage_now b) b.shelf b.starts (omega (arith, no-readers k s.readers was)) p
+      by false was = put k out n (place_before s.key b.shelf) (stage_now b) s b.shelf b.starts p each
+
+  left-at : (n j : ℕ) (b : Board) → Here n b → Here (in_hand j (names_with j b) + n) (left j b)
+  left-at n j b p = by (find (has_reader j) b.shelf) refl
+    where
+      same_start : (st : StartingAt) → starts_with j st ≡ true → start_at k st ≡ one (j == k)
+      same_start st was = ap (λ (i : ℕ). one (i == k)) (equal st.reader.k j was)
+        where
+          equal : (i j : ℕ) → (i == j) ≡ true → i ≡ j
+          equal i j e = grind (arith, nat_tests)
+
+      start : (o : Option StartingAt) → find (starts_with j) b.starts ≡ o → Here n (without (has_reader j) b) → Here (in_hand j (start_names o) + n) (out_start (starts_with j) (without (has_reader j) b))
+      start None was q =
+          let less = subst (λ (l : List StartingAt). Placed k out n (stage_now b) (without_first (has_reader j) b.shelf) l) (none-without (starts_with j) b.starts was) q in
+          renumber k out n (0 + n) (stage_now b) (without_first (has_reader j) b.shelf) (without_first (starts_with j) b.starts) (omega arith) less
+      start (Some st) was q =
+          renumber k out (start_at k st + n) (one (j == k) + n) (stage_now b) (without_first (has_reader j) b.shelf) (without_first (starts_with j) b.starts) (omega (arith, same_start st (found-passes (starts_with j) b.starts st was)))
+          (take_start k out n (stage_now b) (starts_with j) st (without_first (has_reader j) b.shelf) b.starts was q)
+
+      by : (o : Option SpoolAt) → find (has_reader j) b.shelf ≡ o → Here (in_hand j (names_by o (find (starts_with j) b.starts)) + n) (left_by o j (without (has_reader j) b))
+      by None was = start (find (starts_with j) b.starts) refl (subst (λ (l : List SpoolAt). Placed k out n (stage_now b) l b.starts) (none-without (has_reader j) b.shelf was) p)
+      by (Some s) was =
+          let old = without (has_reader j) b in
+          let taken = take_out k out n (stage_now b) (has_reader j) s b.shelf b.starts was p in
+          let each = all-found (SpoolStands k (stage_now b)) (has_reader j) b.shelf s was p.stand in
+          let less = leaves-readers k j s (found-passes (has_reader j) b.shelf s was) (omega (arith, taken.few)) in
+          back-at (one (j == k) + n) (without_reader j s) old
+          (renumber k out (readers_of k s + n) (readers_of k (without_reader j s) + (one (j == k) + n)) (stage_now b) old.shelf old.starts (omega (arith, less)) taken)
+          (all-kept (ReaderStands k (stage_now b) s.key) (λ r. not (is_reader j r)) s.readers each)
+
+  departed-at : (n j : ℕ) (b : Board) → Here n b → Here n (departed j b)
+  departed-at n j b p = by (names_with j b) (left-at n j b p)
+    where
+      by : (o : Option (List (List ℕ))) → Here (in_hand j o + n) (left j b) → Here n (departed_by o j (left j b))
+      by None q = renumber k out (0 + n) n (stage_now (left j b)) (left j b).shelf (left j b).starts (omega arith) q
+      by (Some names) q = ended-at k out begin n j false names (left j b) q
+
+  member_gone-at : (n : ℕ) (c : List ℕ) (j : ℕ) (b : Board) → Here n b → Here n (member_gone c b j)
+  member_gone-at n c j b p = by (names_with j b) (left-at n j b p)
+    where
+      by : (o : Option (List (List ℕ))) → Here (in_hand j o + n) (left j b) → Here n (member_gone_by o c j (left j b))
+      by None q = renumber k out (0 + n) n (stage_now (left j b)) (left j b).shelf (left j b).starts (omega arith) q
+      by (Some names) q = ended-at k out begin n j true (other_names c names) (left j b) q
+
+  members_gone-at : (n : ℕ) (c members : List ℕ) (b : Board) → Here n b → Here n (fold (member_gone c) b members)
+  members_gone-at n c [] b p = p
+  members_gone-at n c (j ∷ members) b p = members_gone-at n c members (member_gone c b j) (member_gone-at n c j b p)
+
+  emptied_in-at : (n : ℕ) (c : List ℕ) (s : SpoolAt) (b : Board) → SpoolStands k (stage_now b) s → Here (readers_of k s + n) b → Here n (emptied_in c s b)
+  emptied_in-at n c s b each p = by (place_of c s.key.list)
+    where
+      by : (o : Option ℕ) → Here n (emptied_place o s b)
+      by None = put k out n (place_before s.key b.shelf) (stage_now b) s b.shelf b.starts p each
+      by (Some j) = heeded-at k out begin n (gone_says (place_at s j)) j s b each p
+
+  emptied_at-at : (n : ℕ) (c : List ℕ) (b : Board) (key : KeyAt) → Here n b → Here n (emptied_at c b key)
+  emptied_at-at n c b key p = by (spool_of key b.shelf) refl
+    where
+      by : (o : Option SpoolAt) → spool_of key b.shelf ≡ o → Here n (emptied_by o c (without (is_of key) b))
+      by None was = missed-at k out begin n (is_of key) b was p
+      by (Some s) was = emptied_in-at n c s (without (is_of key) b) (taken-stands k out begin n (is_of key) s b was p) (taken-at k out begin n (is_of key) s b was p)
+
+  emptied_keys-at : (n : ℕ) (c : List ℕ) (keys : List KeyAt) (b : Board) → Here n b → Here n (fold (emptied_at c) b keys)
+  emptied_keys-at n c [] b p = p
+  emptied_keys-at n c (key ∷ keys) b p = emptied_keys-at n c keys (emptied_at c b key) (emptied_at-at n c b key p)
+
+  gone-at : (n : ℕ) (c members : List ℕ) (b : Board) → Here n b → Here n (gone c members b)
+  gone-at n c members b p = emptied_keys-at n c (keys_with c (fold (member_gone c) b members).shelf) (fold (member_gone c) b members) (members_gone-at n c members b p)
+
 -- ---- the calls
 
 module _ (k : ℕ) (out : Stage) where
@@ -426,6 +516,8 @@ module _ (k : ℕ) (out : Stage) where
       answer = λ number q floor found. staged _ _ (answered-here k out stage 0 number (record { q = q; floor = floor }) (option_map news_of found) (board_of s) here);
       edge_answer = λ number floor last. staged _ _ (edged-at k out stage 0 number (Known last floor) (board_of s) here);
       notice = λ d found. staged _ _ (noticed_keys-at k out stage 0 d (news_of found) (keys_with d s.shelf) (board_of s) here);
+      removal = λ d members. staged _ _ (gone-at k out stage 0 d members (board_of s) here);
+      depart = λ n. staged _ _ (departed-at k out stage 0 n (board_of s) here);
     }
       where
         clash : {t : Bool} → t ≡ false → t ≡ true → ⊥

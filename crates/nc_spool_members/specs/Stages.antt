@@ -13,7 +13,7 @@ use Rattle.nc_spool.specs.declared.fact.Fact.{Fact}
 use Rattle.nc_spool.specs.declared.fact.Fact.TheVariants as facts
 use Rattle.nc_spool.specs.declared.spools.Found.{Found}
 use Rattle.nc_spool.specs.declared.board.Board.{Board}
-use Rattle.nc_spool.specs.Calls.{SpoolsAt, board_of, arrive_facts, arrive_after, answer_facts, answer_after, edge_facts, edge_after, notice_facts, notice_after}
+use Rattle.nc_spool.specs.Calls.{SpoolsAt, board_of, arrive_facts, arrive_after, answer_facts, answer_after, edge_facts, edge_after, notice_facts, notice_after, gone_facts, gone_after, depart_facts, depart_after}
 use Rattle.nc_spool_laws.specs.Tally.{stands}
 
 -- the stage of a subscriber after a fact
@@ -58,6 +58,8 @@ module _ {H : Type 0} (k : ℕ) (out stage : Stage) (s : SpoolsAt H) where
     pub answer : (number q floor : ℕ) (found : Option (Found H)) → StaysStaged (answer_facts number q floor found s) (answer_after number q floor found s)
     pub edge_answer : (number floor : ℕ) (last : Id) → StaysStaged (edge_facts number floor last s) (edge_after number floor last s)
     pub notice : (d : List ℕ) (found : Found H) → StaysStaged (notice_facts d found s) (notice_after d found s)
+    pub removal : (d members : List ℕ) → StaysStaged (gone_facts d members s) (gone_after d members s)
+    pub depart : (n : ℕ) → StaysStaged (depart_facts n s) (depart_after n s)
 
 -- each call leaves each subscriber the stage that the spools say; one that comes was subscribed before
 pub record KeepStages (H : Type 0) : Type 0 where
