@@ -1,0 +1,3 @@
+pub mod Forgetting
+pub mod Idling
+pub mod Beginning
