@@ -1,0 +1,6 @@
+pub mod Noticed
+pub mod Telling
+pub mod Framing
+pub mod Shaping
+pub mod Stepping
+pub mod Reaching
