@@ -1,5 +1,6 @@
 pub mod Weights
 pub mod Weighing
+pub mod Removing
 pub mod Telling
 pub mod Singles
 pub mod Quiet

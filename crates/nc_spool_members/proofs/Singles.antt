@@ -3,7 +3,7 @@ use Rattle.std.proofs.Common.{◌≡◌, ℕ, ◌+◌, ◌≤◌, Bool, true, fa
 use Rattle.std.specs.Option.{option_map}
 use Rattle.nc_spool_state.specs.declared.edge.Edge.TheVariants.{Known}
 use Rattle.nc_spool.specs.declared.board.Board.{Board}
-use Rattle.nc_spool.specs.Calls.{board_of, news_of, arrive_board, answer_board, edge_board, notice_board, depart_board}
+use Rattle.nc_spool.specs.Calls.{board_of, news_of, arrive_board, answer_board, edge_board, notice_board, gone_board, depart_board}
 use Rattle.nc_spool_laws.specs.Numbers.{one}
 use Rattle.nc_spool_laws.specs.Tally.{stands, ends, tally}
 use Rattle.nc_spool_laws.proofs.Tallies.{tally-kept}
@@ -48,6 +48,10 @@ keep-singly H s single = record {
   notice = λ d found. record {
     once = λ j. fewer j (board_of s) (notice_board d found s) refl (single.once j) (tally-kept.notice j d (news_of found) (board_of s));
     fit = keys-kept.notice d (news_of found) (board_of s) tt single.fit;
+  };
+  removal = λ d members. record {
+    once = λ j. fewer j (board_of s) (gone_board d members s) refl (single.once j) (tally-kept.removal j d members (board_of s) single.once);
+    fit = keys-kept.removal d members (board_of s) single.fit;
   };
   depart = λ n. record {
     once = λ j. fewer j (board_of s) (depart_board n s) refl (single.once j) (tally-kept.depart j n (board_of s) single.once);

@@ -1,5 +1,5 @@
 -- What calls tell the owners: the members of a channel are those who stand with it.
-use Rattle.std.proofs.Common.{◌≡◌, ◌≢◌, ℕ, zero, suc, ◌+◌, ◌≤◌, Bool, true, false, cond, ◌||◌, ◌&&◌, List, [], ◌∷◌, refl, sym, ap, ◌∙◌, subst, arith, ◌==◌}
+use Rattle.std.proofs.Common.{◌≡◌, ◌≢◌, ℕ, zero, suc, ◌+◌, ◌≤◌, Bool, true, false, cond, not, ◌||◌, ◌&&◌, List, [], ◌∷◌, refl, sym, ap, ◌∙◌, subst, arith, ◌==◌}
 use Rattle.std.specs.Prelude.{fold}
 use Rattle.std.specs.List.{AllByRecursion, list_any}
 use Rattle.std.specs.Option.{option_map}
@@ -19,15 +19,16 @@ use Rattle.nc_spool.specs.declared.fact.Fact.{Fact}
 use Rattle.nc_spool.specs.declared.fact.Fact.TheVariants.{Out, Started, Sent, Ended}
 use Rattle.nc_spool.specs.declared.board.Board.{Board}
 use Rattle.nc_spool.specs.Arrive.{joined, arrived}
-use Rattle.nc_spool.specs.Calls.{SpoolsAt, board_of, news_of, answer_board, edge_board, notice_board, depart_board}
+use Rattle.nc_spool.specs.Calls.{SpoolsAt, board_of, news_of, answer_board, edge_board, notice_board, gone_board, depart_board}
 use Rattle.nc_spool_laws.specs.Numbers.{one, total}
 use Rattle.nc_spool_laws.specs.Tally.{reader_at, readers_of, start_at}
 use Rattle.nc_spool_laws.specs.Keys.{SpoolFits, StartFits}
 use Rattle.nc_spool_laws.proofs.Totals.{total-push}
 use Rattle.nc_spool_laws.proofs.Same.{joined-shelf, joined-starts}
 use Rattle.nc_spool_members.specs.Singly.{StandSingly}
-use Rattle.nc_spool_members.specs.Members.{reads_with, begins_with, stands_with, member_told, CallsTell, TellMembers}
-use Rattle.nc_spool_members.proofs.Weights.{named, weight, spool_weight, start_weight}
+use Rattle.nc_spool_members.specs.Members.{reads_with, begins_with, stands_with, is_named, member_told, CallsTell, TellMembers}
+use Rattle.nc_spool_members.proofs.Weights.{named, weight, spool_weight, start_weight, weighed}
+use Rattle.nc_spool_members.proofs.Removing.{gone-scales, own-facts, stays-weighed, goes-weighed}
 use Rattle.nc_spool_members.proofs.Weighing.{Weighs, fact_weight, arrived-scales, started-facts, answered-scales, edged-scales, noticed_keys-scales, departed-scales}
 
 -- ---- more than none
@@ -61,9 +62,6 @@ some-all f test each (x ∷ xs) = some-plus (f x) (total f xs) ∙ ap (λ b. b |
 -- ---- who stands with a channel weighs something
 
 module _ (c : List ℕ) (k : ℕ) where
-  abbrev weighed : Board → ℕ
-  weighed b = total (spool_weight c k) b.shelf + total (start_weight c k) b.starts
-
   some-readers : (list : List (List ℕ)) (readers : List Reader) → some (total (weight c k list) readers) ≡ is_in c list && is_among k readers
   some-readers list [] = none (is_in c list)
     where
@@ -95,7 +93,7 @@ module _ (c : List ℕ) (k : ℕ) where
           none true = refl
           none false = refl
 
-  stands-some : (b : Board) → some (weighed b) ≡ stands_with c k b
+  stands-some : (b : Board) → some (weighed c k b) ≡ stands_with c k b
   stands-some b = some-plus (total (spool_weight c k) b.shelf) (total (start_weight c k) b.starts)
       ∙ ap (λ x. x || some (total (start_weight c k) b.starts)) (some-all (spool_weight c k) (reads_with c k) (λ s. some-readers s.key.list s.readers) b.shelf)
       ∙ ap (λ x. list_any (reads_with c k) b.shelf || x) (some-all (start_weight c k) (begins_with c k) some-start b.starts)
@@ -303,6 +301,17 @@ module _ (c : List ℕ) (k : ℕ) where
     away : (new : Board) → weighed c k new + parts new.facts ≡ weighed c k (board_of s) + 0 → weighed c k new + both new.facts ≡ weighed c k (board_of s) + 0 → member_told c k (stands_with c k (board_of s)) new.facts ≡ stands_with c k new
     away new less less_both = leaving (board_of s) new refl (weighs-once c k s single) less less_both
 
+    unheard : (members : List ℕ) (is : Bool) → member_told c k is (gone_board c members s).facts ≡ is
+    unheard members is =
+        let new = gone_board c members s in
+        let none_parts : parts new.facts ≡ 0 = own-facts c k part_weight weighs-parts members (board_of s) in
+        let none_both : both new.facts ≡ 0 = own-facts c k either_weight weighs-either members (board_of s) in
+        parted-members new.facts is (omega (arith, none_parts, none_both, sum-all new.facts)) ∙ ap (λ n. cond (some n) false is) none_parts
+
+    removed_by : (members : List ℕ) (t : Bool) → is_named k members ≡ t → stands_with c k (gone_board c members s) ≡ not t && stands_with c k (board_of s)
+    removed_by members true was = sym (stands-some c k (gone_board c members s)) ∙ ap some (goes-weighed k c part_weight weighs-parts members (board_of s) (single.once k) was)
+    removed_by members false was = sym (stands-some c k (gone_board c members s)) ∙ ap some (stays-weighed c k part_weight weighs-parts members (board_of s) (single.once k) was) ∙ stands-some c k (board_of s)
+
     pub calls-tell : CallsTell c k s
     calls-tell = record {
       arrive = λ n list start once. coming (record { k = n; once = once }) list start (board_of s) refl;
@@ -315,6 +324,11 @@ module _ (c : List ℕ) (k : ℕ) where
       notice = λ d found. away (notice_board d found s)
           (noticed_keys-scales c k part_weight weighs-parts d (news_of found) (keys_with d s.shelf) (board_of s))
           (noticed_keys-scales c k either_weight weighs-either d (news_of found) (keys_with d s.shelf) (board_of s));
+      removal = λ d members other. away (gone_board d members s)
+          (gone-scales c k part_weight weighs-parts d other members (board_of s) (single.once k))
+          (gone-scales c k either_weight weighs-either d other members (board_of s) (single.once k));
+      own_removal = λ members is. unheard members is;
+      removed = λ members. removed_by members (is_named k members) refl;
       depart = λ n. away (depart_board n s)
           (departed-scales c k part_weight weighs-parts n (board_of s) (single.once k))
           (departed-scales c k either_weight weighs-either n (board_of s) (single.once k));

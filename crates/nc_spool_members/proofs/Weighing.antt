@@ -33,8 +33,8 @@ use Rattle.nc_spool_state.specs.Edge.{is_behind, is_any_awaited, is_any_behind, 
 use Rattle.nc_spool_state.specs.Starting.{StartingAt, with_edge, start_awaits, starts_with}
 use Rattle.nc_spool.specs.Board.{told, looked, shelved, asked_from, fresh_spool, standing, opened, entered, parted, ended}
 use Rattle.nc_spool.specs.Decide.{fence_look, fence_looks, fenced_places, delivery, sending, sent_one, decided, decided_by}
-use Rattle.nc_spool_state.specs.Hear.{learned, notice_says}
-use Rattle.nc_spool.specs.Hear.{looked_again, heeded, noticed_at, noticed_by, noticed_in, noticed_place, answered, answered_by, answered_in, answered_at}
+use Rattle.nc_spool_state.specs.Hear.{learned, notice_says, gone_says}
+use Rattle.nc_spool.specs.Hear.{looked_again, heeded, noticed_at, noticed_by, noticed_in, noticed_place, emptied_at, emptied_by, emptied_in, emptied_place, answered, answered_by, answered_in, answered_at}
 use Rattle.nc_spool.specs.Depart.{names_with, names_by, start_names, left, left_by, departed, departed_by}
 use Rattle.nc_spool.specs.Arrive.{oldest_cursor, started_by}
 use Rattle.nc_spool.specs.Newest.{begun, parked, fresh_edges, behind_edges, edges_from, asked_edge, edge_behind, edges_behind, second_by, answered_all, went_on, edge_heard, edge_heard_at, edge_answered, edge_answered_by}
@@ -65,10 +65,10 @@ module _ (chan : List ℕ) (k : ℕ) (g : Ask → ℕ) (weighs : Weighs chan k g
   abbrev pub scales : Board → ℕ
   scales b = total (spool_weight chan k) b.shelf + total (start_weight chan k) b.starts + total (fact_weight g) b.facts
 
-  told-facts : (fact : Fact) (b : Board) → (fact_weight g) fact ≡ 0 → total (fact_weight g) (told fact b).facts ≡ total (fact_weight g) b.facts
+  pub told-facts : (fact : Fact) (b : Board) → (fact_weight g) fact ≡ 0 → total (fact_weight g) (told fact b).facts ≡ total (fact_weight g) b.facts
   told-facts fact b e = omega (arith, total-push (fact_weight g) b.facts fact, e)
 
-  looked-facts : (c : List ℕ) (after : Id) (fence : ℕ) (b : Board) → total (fact_weight g) (looked c after fence b).facts ≡ total (fact_weight g) b.facts
+  pub looked-facts : (c : List ℕ) (after : Id) (fence : ℕ) (b : Board) → total (fact_weight g) (looked c after fence b).facts ≡ total (fact_weight g) b.facts
   looked-facts c after fence b = told-facts _ (record b { next = b.next + 1 }) (weighs.look _ _ _ _)
 
   asked-facts : (key : KeyAt) (j : ℕ) (names : List (List ℕ)) (b : Board) → total (fact_weight g) (asked_from key j names b).facts ≡ total (fact_weight g) b.facts
@@ -172,7 +172,7 @@ module _ (chan : List ℕ) (k : ℕ) (g : Ask → ℕ) (weighs : Weighs chan k g
   one-more false true n = omega arith
   one-more false false n = omega arith
 
-  parted-facts : (j : ℕ) (names : List (List ℕ)) (b : Board) → total (fact_weight g) (fold (parted j) b names).facts ≡ cond (j == k) (named chan names) 0 + total (fact_weight g) b.facts
+  pub parted-facts : (j : ℕ) (names : List (List ℕ)) (b : Board) → total (fact_weight g) (fold (parted j) b names).facts ≡ cond (j == k) (named chan names) 0 + total (fact_weight g) b.facts
   parted-facts j [] b = none (j == k)
     where
       none : (t : Bool) → total (fact_weight g) b.facts ≡ cond t 0 0 + total (fact_weight g) b.facts
@@ -180,7 +180,7 @@ module _ (chan : List ℕ) (k : ℕ) (g : Ask → ℕ) (weighs : Weighs chan k g
       none false = omega arith
   parted-facts j (c ∷ names) b = omega (arith, parted-facts j names (parted j b c), part-facts j c b, one-more (j == k) (name_eq c chan) (named chan names))
 
-  ended-scales : (j : ℕ) (deleted : Bool) (names : List (List ℕ)) (b : Board) → scales (ended j deleted names b) ≡ cond (j == k) (named chan names) 0 + scales b
+  pub ended-scales : (j : ℕ) (deleted : Bool) (names : List (List ℕ)) (b : Board) → scales (ended j deleted names b) ≡ cond (j == k) (named chan names) 0 + scales b
   ended-scales j deleted names b =
       let first = told (Ended j deleted) b in
       omega (arith, moved-scales first (ended j deleted names b) (cond (j == k) (named chan names) 0) (parted-shelf j names first) (parted-starts j names first) (parted-facts j names first), told-facts (Ended j deleted) b refl)
@@ -228,6 +228,24 @@ module _ (chan : List ℕ) (k : ℕ) (g : Ask → ℕ) (weighs : Weighs chan k g
   pub noticed_keys-scales : (c : List ℕ) (news : News) (keys : List KeyAt) (b : Board) → scales (fold (noticed_at c news) b keys) ≡ scales b
   noticed_keys-scales c news [] b = refl
   noticed_keys-scales c news (key ∷ keys) b = noticed_keys-scales c news keys (noticed_at c news b key) ∙ noticed_at-scales c news b key
+
+  emptied_in-scales : (c : List ℕ) (s : SpoolAt) (b : Board) → scales (emptied_in c s b) ≡ spool_weight chan k s + scales b
+  emptied_in-scales c s b = by (place_of c s.key.list)
+    where
+      by : (o : Option ℕ) → scales (emptied_place o s b) ≡ spool_weight chan k s + scales b
+      by None = shelved-scales s b
+      by (Some j) = heeded-scales (gone_says (place_at s j)) j s b
+
+  emptied_at-scales : (c : List ℕ) (b : Board) (key : KeyAt) → scales (emptied_at c b key) ≡ scales b
+  emptied_at-scales c b key = by (spool_of key b.shelf) refl
+    where
+      by : (o : Option SpoolAt) → spool_of key b.shelf ≡ o → scales (emptied_by o c (out (is_of key) b)) ≡ scales b
+      by None was = missed-scales (is_of key) b was
+      by (Some s) was = emptied_in-scales c s (out (is_of key) b) ∙ out-scales (is_of key) s b was
+
+  pub emptied_keys-scales : (c : List ℕ) (keys : List KeyAt) (b : Board) → scales (fold (emptied_at c) b keys) ≡ scales b
+  emptied_keys-scales c [] b = refl
+  emptied_keys-scales c (key ∷ keys) b = emptied_keys-scales c keys (emptied_at c b key) ∙ emptied_at-scales c b key
 
   answered_in-scales : (number : ℕ) (quiet : Quiet) (news : Option News) (s : SpoolAt) (b : Board) → scales (answered_in number quiet news s b) ≡ spool_weight chan k s + scales b
   answered_in-scales number quiet news s b = by (place_awaiting number s.places)
@@ -283,11 +301,11 @@ module _ (chan : List ℕ) (k : ℕ) (g : Ask → ℕ) (weighs : Weighs chan k g
       by false was = shelved-scales s b
 
   -- who is there takes along how often its list names the channel
-  abbrev counted : ℕ → Option (List (List ℕ)) → ℕ
+  abbrev pub counted : ℕ → Option (List (List ℕ)) → ℕ
   counted j None = 0
   counted j (Some names) = cond (j == k) (named chan names) 0
 
-  left-scales : (j : ℕ) (b : Board) → stands k b ≤ 1 → scales (left j b) + counted j (names_with j b) ≡ scales b
+  pub left-scales : (j : ℕ) (b : Board) → stands k b ≤ 1 → scales (left j b) + counted j (names_with j b) ≡ scales b
   left-scales j b few = by (find (has_reader j) b.shelf) refl
     where
       start-one : (st : StartingAt) → starts_with j st ≡ true → start_weight chan k st ≡ cond (j == k) (named chan st.list) 0

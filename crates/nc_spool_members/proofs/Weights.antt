@@ -6,6 +6,7 @@ use Rattle.nc_types.specs.Channel.{name_eq}
 use Rattle.nc_spool_state.specs.declared.spool.Reader.{Reader}
 use Rattle.nc_spool_state.specs.Spool.{SpoolAt, is_reader, has_reader, without, with_reader, without_reader, place_above}
 use Rattle.nc_spool_state.specs.Starting.{StartingAt}
+use Rattle.nc_spool.specs.declared.board.Board.{Board}
 use Rattle.nc_spool_laws.specs.Numbers.{one, total}
 use Rattle.nc_spool_laws.specs.Tally.{reader_at, readers_of}
 use Rattle.nc_spool_laws.proofs.Totals.{total-insert}
@@ -24,6 +25,10 @@ module _ (c : List ℕ) (k : ℕ) where
 
   abbrev pub start_weight : StartingAt → ℕ
   start_weight s = weight s.list s.reader
+
+  -- and among all
+  abbrev pub weighed : Board → ℕ
+  weighed b = total spool_weight b.shelf + total start_weight b.starts
 
   pub entered-weight : (r : Reader) (s : SpoolAt) → spool_weight (with_reader r s) ≡ weight s.key.list r + spool_weight s
   entered-weight r s = total-insert (weight s.key.list) s.readers (place_above r.k s.readers) r
@@ -55,7 +60,7 @@ module _ (c : List ℕ) (k : ℕ) where
   no-weight list (r ∷ readers) e = absurd (grind (arith, nat_tests))
 
   -- who isn't among some weighs nothing, and who is there once weighs as often as the list names the channel
-  no-reader : (list : List (List ℕ)) (readers : List Reader) → total (reader_at k) readers ≡ 0 → total (weight list) readers ≡ 0
+  pub no-reader : (list : List (List ℕ)) (readers : List Reader) → total (reader_at k) readers ≡ 0 → total (weight list) readers ≡ 0
   no-reader list [] e = refl
   no-reader list (r ∷ readers) e = by (is_reader k r) refl (λ h. no-reader list readers h)
     where

@@ -1,5 +1,5 @@
 -- Who stands with a channel, and what the calls of spools tell its owner.
-use Rattle.std.specs.Prelude.{◌≡◌, ℕ, Bool, true, false, List, Option, if◌then◌else◌, fold, ◌==◌, ◌&&◌, ◌||◌}
+use Rattle.std.specs.Prelude.{◌≡◌, ℕ, Bool, true, false, not, List, Option, if◌then◌else◌, fold, ◌==◌, ◌&&◌, ◌||◌}
 use Rattle.std.specs.List.{list_any}
 use Rattle.nc_types.specs.Id.{Id}
 use Rattle.nc_types.specs.Channel.{name_eq}
@@ -13,7 +13,7 @@ use Rattle.nc_spool.specs.declared.fact.Fact.{Fact}
 use Rattle.nc_spool.specs.declared.fact.Fact.TheVariants.{Out, Started, Sent, Ended}
 use Rattle.nc_spool.specs.declared.spools.Found.{Found}
 use Rattle.nc_spool.specs.declared.board.Board.{Board}
-use Rattle.nc_spool.specs.Calls.{SpoolsAt, board_of, arrive_facts, arrive_after, answer_facts, answer_after, edge_facts, edge_after, notice_facts, notice_after, depart_facts, depart_after}
+use Rattle.nc_spool.specs.Calls.{SpoolsAt, board_of, arrive_facts, arrive_after, answer_facts, answer_after, edge_facts, edge_after, notice_facts, notice_after, gone_facts, gone_after, depart_facts, depart_after}
 use Rattle.nc_spool_members.specs.Singly.{StandSingly}
 
 -- a subscriber stands in a spool whose list has a channel
@@ -46,6 +46,10 @@ member_by c k is (Ended n deleted) = is
 abbrev pub member_told : List ℕ → ℕ → Bool → List Fact → Bool
 member_told c k is facts = fold (member_by c k) is facts
 
+-- a number is among some
+abbrev pub is_named : ℕ → List ℕ → Bool
+is_named k members = list_any (λ n. n == k) members
+
 -- where the members of a channel were those who stand with it, they are so again once its owner heard what a call asks;
 -- subscriber `k` is any one
 module _ {H : Type 0} (c : List ℕ) (k : ℕ) where
@@ -53,12 +57,17 @@ module _ {H : Type 0} (c : List ℕ) (k : ℕ) where
   abbrev pub IsTold : SpoolsAt H → List Fact → SpoolsAt H → Type 0
   IsTold s facts new = member_told c k (stands_with c k (board_of s)) facts ≡ stands_with c k (board_of new)
 
-  -- who comes joins; who goes otherwise than by the removal of a channel parts
+  -- who comes joins, and who goes parts
   pub record CallsTell (s : SpoolsAt H) : Type 0 where
     pub arrive : (n : ℕ) (list : List (List ℕ)) (start : Start) (once : Bool) → IsTold s (arrive_facts n list start once s) (arrive_after n list start once s)
     pub answer : (number q floor : ℕ) (found : Option (Found H)) → IsTold s (answer_facts number q floor found s) (answer_after number q floor found s)
     pub edge_answer : (number floor : ℕ) (last : Id) → IsTold s (edge_facts number floor last s) (edge_after number floor last s)
     pub notice : (d : List ℕ) (found : Found H) → IsTold s (notice_facts d found s) (notice_after d found s)
+    -- the removal of another channel
+    pub removal : (d members : List ℕ) → name_eq d c ≡ false → IsTold s (gone_facts d members s) (gone_after d members s)
+    -- the removal of the channel itself, which its owner knows: nothing is told, and those that it names don't stand with it any more
+    pub own_removal : (members : List ℕ) (is : Bool) → member_told c k is (gone_facts c members s) ≡ is
+    pub removed : (members : List ℕ) → stands_with c k (board_of (gone_after c members s)) ≡ not (is_named k members) && stands_with c k (board_of s)
     pub depart : (n : ℕ) → IsTold s (depart_facts n s) (depart_after n s)
 
 -- each call tells it, where nobody stands twice and no list names a channel twice

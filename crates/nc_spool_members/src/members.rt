@@ -2,7 +2,8 @@
 ghost use Rattle.nc_spool_members.specs.Members.{TellMembers};
 ghost use Rattle.nc_spool_members.specs.Singly.{KeepSingly};
 
-/// Once the owner of a channel heard all that a call asks, its members are those who stand with the channel after the call.
+/// Once the owner of a channel heard all that a call asks, its members are those who stand with the channel after the call; those
+/// whom the removal of the channel names don't stand with it any more, and the owner hears nothing of them.
 pub fn members_are_told<H>()
     ensures { TellMembers H }
 {}
