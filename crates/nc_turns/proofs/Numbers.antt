@@ -12,7 +12,7 @@ use Rattle.nc_world.specs.Moves.{Move, Carries, Takes, Rests}
 use Rattle.nc_world.specs.Lines.{below, pairs, round}
 use Rattle.nc_turns.specs.Turns.{turn_count, turn_move}
 
-length_below : (n : ℕ) → length (below n) ≡ n
+pub length_below : (n : ℕ) → length (below n) ≡ n
 length_below zero = refl
 length_below (suc n) = length-append (below n) (n ∷ []) ∙ ap (λ (k : ℕ). k + 1) (length_below n) ∙ one n
   where
@@ -20,7 +20,7 @@ length_below (suc n) = length-append (below n) (n ∷ []) ∙ ap (λ (k : ℕ). 
     one a = omega arith
 
 -- the numbers below one are themselves
-at_below : (n i : ℕ) → i < n → get_or (below n) i 0 ≡ i
+pub at_below : (n i : ℕ) → i < n → get_or (below n) i 0 ≡ i
 at_below zero i lt = absurd (omega (arith, lt))
 at_below (suc n) i lt = by (λ l. at_below n i l) (near i n lt)
   where
@@ -74,6 +74,9 @@ some t zero lt = absurd (no t (zero-mul 0) lt)
     no : (a : ℕ) → 0 * 0 ≡ 0 → a < 0 * 0 → ⊥
     no a e lt = omega (arith, e, lt)
 some t (suc n) lt = omega arith
+
+pub among : (n t : ℕ) → t < n * n → (t / n < n) × (t % n < n)
+among n t lt = ((div-lt_iff_lt-mul (some t n lt)).1 lt, omega (arith, some t n lt))
 
 at_pairs : (n t : ℕ) (d : ℕ × ℕ) → t < n * n → get_or (pairs n) t d ≡ (t / n, t % n)
 at_pairs n t d lt = at_rows n (below n) (t / n) (t % n) t d (subst (λ k. t / n < k) (sym (length_below n)) quotient) (omega (arith, some t n lt)) (sym (div-add-mod' t n)) ∙ ap (λ (w : ℕ). (w, t % n)) (at_below n (t / n) quotient)

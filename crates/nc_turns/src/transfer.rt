@@ -1,7 +1,7 @@
 //! Turns as data.
-ghost use Rattle.std.specs.Prelude.{◌≡◌};
+ghost use Rattle.std.specs.Prelude.{◌≡◌, IfSome};
 ghost use Rattle.nc_turns.specs.Turns.{turn_move};
-ghost use Rattle.nc_turns.specs.Transfer.{transfer_move};
+ghost use Rattle.nc_turns.specs.Transfer.{transfer_move, IsAmong};
 
 /// What a turn tries.
 #[derive(Clone, Copy)]
@@ -15,7 +15,8 @@ pub enum Transfer {
 /// What a turn of a round tries, of so many workers: first a carry of each pair, then a take of each.
 /// None comes exactly where a round has no such turn.
 pub fn transfer_at(workers: u8, turn: u32) -> Option<Transfer>
-    ensures { transfer_move result ≡ turn_move workers turn }
+    ensures moves { transfer_move result ≡ turn_move workers turn }
+    ensures among { IfSome result (IsAmong workers) }
 {
     let workers = u32::from(workers);
     let pairs = workers * workers;
