@@ -1,0 +1,49 @@
+-- The member rule holds in each reached world.
+use Rattle.std.proofs.Common.{◌≡◌, ℕ, List, [], ◌∷◌, subst}
+use Rattle.std.specs.List.{AllByRecursion}
+use Rattle.nc_types.specs.Channel.{owner_of}
+use Rattle.nc_journal.specs.History.{onto}
+use Rattle.nc_journal.specs.declared.event.Event.{Event}
+use Rattle.nc_journal.specs.declared.event.Event.TheVariants.{Quiet}
+use Rattle.nc_history.specs.Packets.{pending}
+use Rattle.nc_worker_state.specs.Setup.{Setup}
+use Rattle.nc_worker_state.specs.Incoming.{TakesPacket}
+use Rattle.nc_world.specs.World.{World, handled_events, pending_in}
+use Rattle.nc_world.specs.Moves.{Counts, counted}
+use Rattle.nc_world.specs.Reached.{IsSetup, Reached, Moves}
+use Rattle.nc_world_laws.specs.Kinds.{IsBy}
+use Rattle.nc_world_laws.specs.WorldTheme.{IsWorldTheme}
+use Rattle.nc_world_laws.proofs.Parts.{step_by}
+use Rattle.nc_world_laws.proofs.WorldThemes.{world_theme_holds}
+use Rattle.nc_world_owners.proofs.ReachedHistories.{counts_are_told}
+use Rattle.nc_world_members.proofs.Staging.{members_by_stages}
+use Rattle.nc_world_quiet.specs.Members.{MembersAt, IsMemberRule, HistoriesHaveMembers}
+
+-- a worker's events tell no quiet
+rule_by : (workers w : ℕ) (es h : List Event) → AllByRecursion (IsBy w) es → IsMemberRule workers h → IsMemberRule workers (onto es h)
+rule_by workers w [] h by r = r
+rule_by workers w (e ∷ es) h by r = rule_by workers w es (e ∷ h) by.1 (r, one e by.0)
+  where
+    one : (x : Event) → IsBy w x → MembersAt workers h x
+    one Quiet i = absurd cc
+    one x i = tt
+
+-- where nothing is pending it is told so, and then nothing is
+none_there : (setup : Setup) (h : List Event) (world : World) → IsSetup setup → Reached setup h world → pending_in setup world ≡ 0 → (v w : ℕ) → pending v w h ≡ []
+none_there setup h world is r none =
+    let quiet : Reached setup (Quiet ∷ h) world = subst (λ (n : ℕ). Reached setup (onto (counted n) h) world) none (Moves h world Counts r tt) in
+    (counts_are_told setup (Quiet ∷ h) world is quiet).1
+
+module _ (setup : Setup) (is : IsSetup setup) where
+  rule_theme : IsWorldTheme setup (λ h world. IsMemberRule setup.workers h)
+  rule_theme = record {
+    new = tt;
+    handles = λ w incoming h world reached g here i r. rule_by setup.workers w (handled_events setup w incoming world) h (step_by setup is w incoming h world g) r;
+    takes = λ w v p ps h world reached g here there at r. rule_by setup.workers w (handled_events setup w (TakesPacket v p) world) h (step_by setup is w (TakesPacket v p) h world g) r;
+    carries = λ w v p ps h world reached g here there at r. r;
+    pending = λ n h world reached g same r. (r, tt);
+    quiet = λ h world reached g same r. (r, λ w k c. members_by_stages setup h world is reached w k c (none_there setup h world is reached same w (owner_of setup.workers c)));
+  }
+
+pub histories_have_members : HistoriesHaveMembers
+histories_have_members setup h world is r = world_theme_holds setup (λ h world. IsMemberRule setup.workers h) is (rule_theme setup is) h world r
