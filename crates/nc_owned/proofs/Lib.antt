@@ -1,0 +1,3 @@
+pub mod Shares
+pub mod Grants
+pub mod Sweeps

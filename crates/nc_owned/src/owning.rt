@@ -1,0 +1,123 @@
+//! The steps of an owner, each told with the alerts that it makes.
+ghost use Rattle.std.specs.Prelude.{◌≡◌, ◌≤◌, ℕ, OnOk};
+ghost use Rattle.nc_types.specs.Message.{IsContentType};
+ghost use Rattle.nc_journal.specs.declared.alert.AlertLine.TheVariants as lines;
+ghost use Rattle.nc_history.specs.Packets.{packet};
+ghost use Rattle.nc_owner_laws.specs.Fits.{Fits};
+ghost use Rattle.nc_worker_state.specs.Incoming.{TakesPacket, Reaps};
+ghost use Rattle.nc_owned.specs.Owns.{Owns};
+
+use nc_owner::{Order, Owner};
+use nc_reaper::reap;
+use nc_scribe::Scribe;
+use nc_slots::Slots;
+use nc_types::{ChanName, MsgId, NoMemory};
+use std::alloc::Global;
+
+/// A message is published, as worker `from` orders it.
+pub fn publish<P: Slots>(
+    owner: &mut Owner,
+    pool: &mut P,
+    scribe: &mut Scribe<P::Hold>,
+    from: u8,
+    order: Order,
+) -> Result<(), NoMemory>
+    requires me { scribe.old.me ≡ owner.old.desk.me }
+    requires fits { Fits (P.slots pool.old owner.old.desk.me) owner.old }
+    requires timeout { order.timeout ≤ 1000000000 }
+    requires content_type { IsContentType order.content_type }
+    ensures { OnOk result ((n : ℕ) → Owns P.held P.exact (TakesPacket from (packet n (lines.Publish order.r order.chan order.length order.timeout order.content_type order.body))) (P.slots pool.old) (P.slots pool.new) (P.holds pool.old) (P.holds pool.new) owner.old owner.new scribe.old scribe.new) }
+{
+    let done = owner.publish(pool, from, order)?;
+    scribe.weave(done)?;
+    Ok(())
+}
+
+/// A look of worker `from`. No fence is asked for.
+pub fn look<P: Slots>(
+    owner: &mut Owner,
+    pool: &mut P,
+    scribe: &mut Scribe<P::Hold>,
+    from: u8,
+    no: u64,
+    c: ChanName,
+    after: MsgId,
+) -> Result<(), NoMemory>
+    requires me { scribe.old.me ≡ owner.old.desk.me }
+    requires fits { Fits (P.slots pool.old owner.old.desk.me) owner.old }
+    ensures { OnOk result ((n fence : ℕ) → Owns P.held P.exact (TakesPacket from (packet n (lines.Look no c after fence))) (P.slots pool.old) (P.slots pool.new) (P.holds pool.old) (P.holds pool.new) owner.old owner.new scribe.old scribe.new) }
+{
+    let done = owner.look(pool, from, no, c, after, 0)?;
+    scribe.weave(done)?;
+    Ok(())
+}
+
+/// A subscriber of worker `from` becomes a member of a channel.
+pub fn join<P: Slots>(
+    owner: &mut Owner,
+    pool: &mut P,
+    scribe: &mut Scribe<P::Hold>,
+    from: u8,
+    c: ChanName,
+    k: u64,
+) -> Result<(), NoMemory>
+    requires me { scribe.old.me ≡ owner.old.desk.me }
+    requires fits { Fits (P.slots pool.old owner.old.desk.me) owner.old }
+    ensures { OnOk result ((n : ℕ) → Owns P.held P.exact (TakesPacket from (packet n (lines.Join c k))) (P.slots pool.old) (P.slots pool.new) (P.holds pool.old) (P.holds pool.new) owner.old owner.new scribe.old scribe.new) }
+{
+    let done = owner.join(pool, from, c, k)?;
+    scribe.weave(done)?;
+    Ok(())
+}
+
+/// A subscriber of worker `from` is a member of a channel no longer.
+pub fn part<P: Slots>(
+    owner: &mut Owner,
+    pool: &mut P,
+    scribe: &mut Scribe<P::Hold>,
+    from: u8,
+    c: ChanName,
+    k: u64,
+) -> Result<(), NoMemory>
+    requires me { scribe.old.me ≡ owner.old.desk.me }
+    requires fits { Fits (P.slots pool.old owner.old.desk.me) owner.old }
+    ensures { OnOk result ((n : ℕ) → Owns P.held P.exact (TakesPacket from (packet n (lines.Part c k))) (P.slots pool.old) (P.slots pool.new) (P.holds pool.old) (P.holds pool.new) owner.old owner.new scribe.old scribe.new) }
+{
+    let done = owner.part(pool, from, c, k)?;
+    scribe.weave(done)?;
+    Ok(())
+}
+
+/// Worker `from` asks what a channel has, for its request `r`.
+pub fn inform<P: Slots>(
+    owner: &mut Owner,
+    pool: &mut P,
+    scribe: &mut Scribe<P::Hold>,
+    from: u8,
+    r: u64,
+    c: ChanName,
+) -> Result<(), NoMemory>
+    requires me { scribe.old.me ≡ owner.old.desk.me }
+    requires fits { Fits (P.slots pool.old owner.old.desk.me) owner.old }
+    ensures { OnOk result ((n : ℕ) → Owns P.held P.exact (TakesPacket from (packet n (lines.Info r c))) (P.slots pool.old) (P.slots pool.new) (P.holds pool.old) (P.holds pool.new) owner.old owner.new scribe.old scribe.new) }
+{
+    let done = owner.info(pool, from, r, c)?;
+    scribe.weave(done)?;
+    Ok(())
+}
+
+/// What has expired leaves all channels, and slots that nobody holds are used again.
+pub fn sweep<P: Slots>(
+    alloc: Global,
+    owner: &mut Owner,
+    pool: &mut P,
+    scribe: &mut Scribe<P::Hold>,
+) -> Result<(), NoMemory>
+    requires me { scribe.old.me ≡ owner.old.desk.me }
+    requires fits { Fits (P.slots pool.old owner.old.desk.me) owner.old }
+    ensures { OnOk result (Owns P.held P.exact Reaps (P.slots pool.old) (P.slots pool.new) (P.holds pool.old) (P.holds pool.new) owner.old owner.new scribe.old scribe.new) }
+{
+    let done = reap(alloc, owner, pool)?;
+    scribe.weave(done)?;
+    Ok(())
+}
