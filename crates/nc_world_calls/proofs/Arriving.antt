@@ -37,7 +37,7 @@ use Rattle.nc_world_told.proofs.Sends.{Appends, same_facts, one_fact, then_facts
 use Rattle.nc_world_told.proofs.Staying.{away_stands, out_away, outs_still}
 use Rattle.nc_world_calls.specs.Arriving.{StartsAtOnce, ArrivalSendsNothing, ArrivalStands}
 
-joined_outs : (k : ℕ) (names : List (List ℕ)) (b : Board) → Appends IsOut b.facts (fold (joined k) b names).facts
+pub joined_outs : (k : ℕ) (names : List (List ℕ)) (b : Board) → Appends IsOut b.facts (fold (joined k) b names).facts
 joined_outs k [] b = same_facts IsOut b.facts
 joined_outs k (c ∷ names) b = then_facts IsOut b.facts (joined k b c).facts _ (one_fact IsOut b.facts _ tt) (joined_outs k names (joined k b c))
 

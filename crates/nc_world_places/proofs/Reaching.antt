@@ -51,7 +51,7 @@ made_one : (P : AlertLine → Type 0) (b : Bool) (xs : List AlertLine) (a : Aler
 made_one P true xs a p k = all_append P xs (a ∷ []) k (p, tt)
 made_one P false xs a p k = k
 
-made_notices : (workers v w : ℕ) (l : List Event) → AllByRecursion (MakesNoticeOf workers v) l → AllByRecursion (IsNoticeOf workers v) (made_to w l)
+pub made_notices : (workers v w : ℕ) (l : List Event) → AllByRecursion (MakesNoticeOf workers v) l → AllByRecursion (IsNoticeOf workers v) (made_to w l)
 made_notices workers v w [] k = tt
 made_notices workers v w (Made x to n a ∷ l) k = made_one (IsNoticeOf workers v) (to == w) (made_to w l) a k.0 (made_notices workers v w l k.1)
 made_notices workers v w (e ∷ l) k = made_notices workers v w l k.1

@@ -187,7 +187,7 @@ module _ (setup : Setup) (is : IsSetup setup) (w : ℕ) (h : List Event) (world 
 
 -- ---- the theme
 
-standing_theme : (setup : Setup) → IsSetup setup → IsWorldTheme setup (λ h world. Stands h)
+pub standing_theme : (setup : Setup) → IsSetup setup → IsWorldTheme setup (λ h world. Stands h)
 standing_theme setup is = record {
   new = record { orderly = record { ordered = tt; ended = λ w n served. served }; opens = tt };
   handles = λ w incoming h world reached g here i k. step_stands setup is w h world reached g k incoming (input_fits setup w h incoming i);

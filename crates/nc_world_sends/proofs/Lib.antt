@@ -1,0 +1,3 @@
+pub mod Startless
+pub mod Starting
+pub mod Sending

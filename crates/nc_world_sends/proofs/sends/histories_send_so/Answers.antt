@@ -1,0 +1,5 @@
+use Rattle.nc_world_sends.proofs.Sending.{histories_send_so}
+use Rattle.nc_world_sends.proofs.sends.histories_send_so.Goals as goal
+
+pub returns : goal.returns
+returns c = histories_send_so
