@@ -1,0 +1,30 @@
+-- Lines as those of the pure world, and what a line keeps.
+use Rattle.std.specs.Prelude.{ℕ, ◌<◌}
+use Rattle.nc_owner.specs.Moment.{IsClock}
+use Rattle.nc_spool.specs.Arrive.{FitsList}
+use Rattle.nc_world.specs.Lines as pure
+use Rattle.nc_cluster.specs.declared.line.ClusterLine.{ClusterLine}
+use Rattle.nc_cluster.specs.declared.line.ClusterLine.TheVariants as lines
+
+abbrev pub pure_line : ClusterLine → pure.Line
+pure_line lines.Blank = pure.Blank
+pure_line (lines.Clock w t) = pure.Clocks w t
+pure_line (lines.Reap w) = pure.Reap w
+pure_line (lines.Carry w to) = pure.Carry w to
+pure_line (lines.Take w from) = pure.Take w from
+pure_line (lines.Settle n) = pure.Settle n
+pure_line (lines.Post w c body) = pure.Post w c body
+pure_line (lines.Poll w k list start) = pure.Poll w k list start
+pure_line (lines.Inform w c) = pure.Inform w c
+
+-- its workers are there, a clock keeps its limit, and a given start has a tag for each name of its list
+abbrev pub CanMake : ℕ → ClusterLine → Type 0
+CanMake workers lines.Blank = Unit {0}
+CanMake workers (lines.Clock w t) = (w < workers) × IsClock t
+CanMake workers (lines.Reap w) = w < workers
+CanMake workers (lines.Carry w to) = (w < workers) × (to < workers)
+CanMake workers (lines.Take w from) = (w < workers) × (from < workers)
+CanMake workers (lines.Settle n) = Unit {0}
+CanMake workers (lines.Post w c body) = w < workers
+CanMake workers (lines.Poll w k list start) = (w < workers) × FitsList list start
+CanMake workers (lines.Inform w c) = w < workers
