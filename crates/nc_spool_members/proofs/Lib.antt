@@ -6,3 +6,4 @@ pub mod Singles
 pub mod Quiet
 pub mod Leaving
 pub mod Staging
+pub mod Started

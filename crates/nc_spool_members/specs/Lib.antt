@@ -1,3 +1,4 @@
 pub mod Members
 pub mod Singly
 pub mod Stages
+pub mod Starts

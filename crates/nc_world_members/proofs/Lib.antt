@@ -5,3 +5,4 @@ pub mod Stepping
 pub mod Moving
 pub mod Deeds
 pub mod Staging
+pub mod Started

@@ -2,7 +2,7 @@
 use Rattle.std.proofs.Common.{◌≡◌, ℕ, zero, suc, ◌+◌, Bool, true, false, cond, ◌||◌, ◌&&◌, List, [], ◌∷◌, refl, sym, ap, ◌∙◌, subst, arith, ◌==◌}
 use Rattle.std.specs.List.{AllByRecursion, list_any}
 use Rattle.nc_journal.specs.History.{own, onto}
-use Rattle.nc_journal.specs.Standing.{Stage, Starting, Standing, Over, IsServed, stage_of, is_subscribed}
+use Rattle.nc_journal.specs.Standing.{Stage, Starting, Standing, Over, IsServed, IsStarting, stage_of, is_subscribed}
 use Rattle.nc_journal.specs.declared.event.Event.{Event}
 use Rattle.nc_spool_state.specs.declared.spool.Reader.{Reader}
 use Rattle.nc_spool_state.specs.Key.{KeyAt, is_in}
@@ -246,7 +246,38 @@ pub members_by_stages : MembersByStages
 members_by_stages setup h world is r w k c none =
     members_stand setup h world is r w k c none ∙ stands_by_stage c k (is_subscribed k (own w h)) (stage_of k (own w h)) (spools_at world w) ((reached_has_stages setup h world is r).staged w k)
 
--- ---- nobody waits for its end
+-- ---- nobody waits for its end, or for its start
+
+-- one that is starting is one of the starts
+pub starting_listed : (k : ℕ) (subscribed : Bool) (stage : Stage) (b : Board) → HasStage k (away_stage subscribed) stage b → IsStarting stage → b.starts ≡ [] → ⊥
+starting_listed k subscribed stage b has was none = by (list_any (has_reader k) b.shelf) refl
+  where
+    in_readers : (key : KeyAt) (rs : List Reader) → is_among k rs ≡ true → AllByRecursion (ReaderStands k stage key) rs → ⊥
+    in_readers key [] e each = cc
+    in_readers key (r ∷ rs) e each = at (is_reader k r) e (λ f. each.0 f) (λ f. in_readers key rs f each.1)
+      where
+        at : (t : Bool) → (t || is_among k rs) ≡ true → (t ≡ true → stage ≡ Standing key.list r.once key.cursor) → (is_among k rs ≡ true → ⊥) → ⊥
+        at true e here rest = subst IsStarting (here refl) was
+        at false e here rest = rest e
+
+    in_shelf : (shelf : List SpoolAt) → list_any (has_reader k) shelf ≡ true → AllByRecursion (SpoolStands k stage) shelf → ⊥
+    in_shelf [] e each = cc
+    in_shelf (s ∷ shelf) e each = at (has_reader k s) refl e (λ f. in_shelf shelf f each.1)
+      where
+        at : (t : Bool) → has_reader k s ≡ t → (t || list_any (has_reader k) shelf) ≡ true → (list_any (has_reader k) shelf ≡ true → ⊥) → ⊥
+        at true f e rest = in_readers s.key s.readers f each.0
+        at false f e rest = rest e
+
+    nobody : (s : Bool) → stage ≡ away_stage s → ⊥
+    nobody true e = subst IsStarting e was
+    nobody false e = subst IsStarting e was
+
+    by : (x : Bool) → list_any (has_reader k) b.shelf ≡ x → ⊥
+    by true e = in_shelf b.shelf e has.standing
+    by false e =
+        let no_starts : total (start_at k) b.starts ≡ 0 = ap (λ (l : List StartingAt). total (start_at k) l) none in
+        let nowhere_now : stands k b ≡ 0 = omega (arith, no_spool k b.shelf e, no_starts) in
+        nobody subscribed (has.away nowhere_now)
 
 not_served : (k : ℕ) (subscribed : Bool) (stage : Stage) (b : Board) → HasStage k (away_stage subscribed) stage b → IsServed stage → ⊥
 not_served k subscribed stage b has was = by (list_any (has_reader k) b.shelf) (list_any (starts_with k) b.starts) refl refl

@@ -3,7 +3,7 @@ use Rattle.std.specs.Prelude.{◌≡◌, ℕ, List, []}
 use Rattle.std.specs.List.{AllByRecursion}
 use Rattle.nc_types.specs.Channel.{owner_of}
 use Rattle.nc_journal.specs.History.{own}
-use Rattle.nc_journal.specs.Standing.{IsServed, stage_of}
+use Rattle.nc_journal.specs.Standing.{IsServed, IsStarting, stage_of}
 use Rattle.nc_journal.specs.declared.event.Event.{Event}
 use Rattle.nc_owner_laws.specs.Filters.{is_member}
 use Rattle.nc_spool_members.specs.Members.{stands_with}
@@ -41,3 +41,7 @@ MembersByStages = (setup : Setup) (h : List Event) (world : World) → IsSetup s
 -- and nobody who was sent its one message waits for its end
 abbrev pub NobodyWaits : Type 0
 NobodyWaits = (setup : Setup) (h : List Event) (world : World) → IsSetup setup → Reached setup h world → (w k : ℕ) → IsServed (stage_of k (own w h)) → ⊥
+
+-- as no one begins behind the newest message yet, nobody is starting
+abbrev pub NobodyStarts : Type 0
+NobodyStarts = (setup : Setup) (h : List Event) (world : World) → IsSetup setup → Reached setup h world → (w k : ℕ) → IsStarting (stage_of k (own w h)) → ⊥

@@ -1,5 +1,5 @@
 //! The stages of subscribers.
-ghost use Rattle.nc_world_members.specs.Laws.{ReachedHasStages, SpoolsStand, MembersByStages, NobodyWaits};
+ghost use Rattle.nc_world_members.specs.Laws.{ReachedHasStages, SpoolsStand, MembersByStages, NobodyWaits, NobodyStarts};
 
 /// Each subscriber's stage by the journal is the one that the spools of its worker say.
 pub fn reached_has_stages()
@@ -20,4 +20,9 @@ pub fn members_by_stages()
 /// Between two steps nobody who was sent its one message waits for its end.
 pub fn nobody_waits()
     ensures { NobodyWaits }
+{}
+
+/// Between two steps nobody is starting, as no one begins behind the newest message yet.
+pub fn nobody_starts()
+    ensures { NobodyStarts }
 {}

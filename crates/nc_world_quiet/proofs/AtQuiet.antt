@@ -1,8 +1,8 @@
 -- The member rule holds in each reached world.
-use Rattle.std.proofs.Common.{◌≡◌, ℕ, List, [], ◌∷◌, subst}
+use Rattle.std.proofs.Common.{refl, ◌∙◌, ◌≡◌, ℕ, List, [], ◌∷◌, subst}
 use Rattle.std.specs.List.{AllByRecursion}
 use Rattle.nc_types.specs.Channel.{owner_of}
-use Rattle.nc_journal.specs.History.{onto}
+use Rattle.nc_journal.specs.History.{own, onto}
 use Rattle.nc_journal.specs.declared.event.Event.{Event}
 use Rattle.nc_journal.specs.declared.event.Event.TheVariants.{Quiet}
 use Rattle.nc_history.specs.Packets.{pending}
@@ -16,8 +16,11 @@ use Rattle.nc_world_laws.specs.WorldTheme.{IsWorldTheme}
 use Rattle.nc_world_laws.proofs.Parts.{step_by}
 use Rattle.nc_world_laws.proofs.WorldThemes.{world_theme_holds}
 use Rattle.nc_world_owners.proofs.ReachedHistories.{counts_are_told}
+use Rattle.nc_journal.specs.Standing.{Stage, Absent, Starting, Standing, Served, Over, IsStarting, stage_of}
+use Rattle.nc_world_members.specs.Stages.{is_with}
 use Rattle.nc_world_members.proofs.Staging.{members_by_stages}
-use Rattle.nc_world_quiet.specs.Members.{MembersAt, IsMemberRule, HistoriesHaveMembers}
+use Rattle.nc_world_members.proofs.Started.{nobody_starts}
+use Rattle.nc_world_quiet.specs.Members.{stands_with, HasItsMembers, MembersAt, IsMemberRule, HistoriesHaveMembers}
 
 -- a worker's events tell no quiet
 rule_by : (workers w : ℕ) (es h : List Event) → AllByRecursion (IsBy w) es → IsMemberRule workers h → IsMemberRule workers (onto es h)
@@ -34,7 +37,21 @@ none_there setup h world is r none =
     let quiet : Reached setup (Quiet ∷ h) world = subst (λ (n : ℕ). Reached setup (onto (counted n) h) world) none (Moves h world Counts r tt) in
     (counts_are_told setup (Quiet ∷ h) world is quiet).1
 
+-- where nobody starts, one that is with a channel stands with it
+only_standing : (c : List ℕ) (stage : Stage) → (IsStarting stage → ⊥) → is_with c stage ≡ stands_with c stage
+only_standing c Absent none = refl
+only_standing c (Starting list once start) none = absurd (none tt)
+only_standing c (Standing list once cur) none = refl
+only_standing c (Served list cur) none = refl
+only_standing c Over none = refl
+
 module _ (setup : Setup) (is : IsSetup setup) where
+  at_quiet : (h : List Event) (world : World) → Reached setup h world → pending_in setup world ≡ 0 → HasItsMembers setup.workers h
+  at_quiet h world r none = record {
+    started = nobody_starts setup h world is r;
+    members = λ w k c. members_by_stages setup h world is r w k c (none_there setup h world is r none w (owner_of setup.workers c)) ∙ only_standing c (stage_of k (own w h)) (nobody_starts setup h world is r w k);
+  }
+
   rule_theme : IsWorldTheme setup (λ h world. IsMemberRule setup.workers h)
   rule_theme = record {
     new = tt;
@@ -42,7 +59,7 @@ module _ (setup : Setup) (is : IsSetup setup) where
     takes = λ w v p ps h world reached g here there at r. rule_by setup.workers w (handled_events setup w (TakesPacket v p) world) h (step_by setup is w (TakesPacket v p) h world g) r;
     carries = λ w v p ps h world reached g here there at r. r;
     pending = λ n h world reached g same r. (r, tt);
-    quiet = λ h world reached g same r. (r, λ w k c. members_by_stages setup h world is reached w k c (none_there setup h world is reached same w (owner_of setup.workers c)));
+    quiet = λ h world reached g same r. (r, at_quiet h world reached same);
   }
 
 pub histories_have_members : HistoriesHaveMembers
