@@ -1,5 +1,5 @@
 -- The member rule holds in each reached world.
-use Rattle.std.proofs.Common.{refl, ◌∙◌, ◌≡◌, ℕ, List, [], ◌∷◌, subst}
+use Rattle.std.proofs.Common.{◌≡◌, ℕ, List, [], ◌∷◌, refl, ◌∙◌, subst}
 use Rattle.std.specs.List.{AllByRecursion}
 use Rattle.nc_types.specs.Channel.{owner_of}
 use Rattle.nc_journal.specs.History.{own, onto}
