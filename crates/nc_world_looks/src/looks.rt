@@ -1,0 +1,12 @@
+//! Looks and their answers.
+ghost use Rattle.nc_world_looks.specs.Looks.{LooksAreAnswered, RestedLooks};
+
+/// Each look that a worker asked an owner for is pending there, or the owner answered it.
+pub fn looks_are_answered()
+    ensures { LooksAreAnswered }
+{}
+
+/// Where nothing is pending between the two, the worker took the answer to each.
+pub fn rested_looks()
+    ensures { RestedLooks }
+{}
