@@ -1,3 +1,4 @@
 pub mod Startless
 pub mod Starting
 pub mod Sending
+pub mod Lawful

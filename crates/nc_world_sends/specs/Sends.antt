@@ -1,7 +1,7 @@
 -- Lawful sends and starts of reached worlds.
 use Rattle.std.specs.Prelude.{ℕ, List}
 use Rattle.nc_journal.specs.History.{Along}
-use Rattle.nc_journal.specs.Sending.{IsSentLawfully}
+use Rattle.nc_journal.specs.Sending.{IsSentLawfully, IsStartedLawfully}
 use Rattle.nc_journal.specs.declared.event.Event.{Event}
 use Rattle.nc_worker_state.specs.Setup.{Setup}
 use Rattle.nc_world.specs.World.{World}
@@ -29,3 +29,7 @@ HistoriesPromise = (setup : Setup) (h : List Event) (world : World) → IsSetup 
 -- in one word of the journal's rules: what is sent is sent lawfully
 abbrev pub HistoriesSendLawfully : Type 0
 HistoriesSendLawfully = (setup : Setup) (h : List Event) (world : World) → IsSetup setup → Reached setup h world → IsSentLawfully setup.workers h
+
+-- and so is each start, before the oldest message or behind a given id
+abbrev pub HistoriesStartLawfully : Type 0
+HistoriesStartLawfully = (setup : Setup) (h : List Event) (world : World) → IsSetup setup → Reached setup h world → IsStartedLawfully setup.workers h

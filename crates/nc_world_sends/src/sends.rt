@@ -1,5 +1,5 @@
 //! Lawful sends and starts.
-ghost use Rattle.nc_world_sends.specs.Sends.{HistoriesCarry, HistoriesPromise, HistoriesSendLawfully, HistoriesSendSo};
+ghost use Rattle.nc_world_sends.specs.Sends.{HistoriesCarry, HistoriesPromise, HistoriesSendLawfully, HistoriesSendSo, HistoriesStartLawfully};
 
 /// Each send and each start was lawful when it was made.
 pub fn histories_send_so()
@@ -19,4 +19,9 @@ pub fn histories_promise()
 /// What is sent is sent lawfully.
 pub fn histories_send_lawfully()
     ensures { HistoriesSendLawfully }
+{}
+
+/// Who starts, starts lawfully.
+pub fn histories_start_lawfully()
+    ensures { HistoriesStartLawfully }
 {}

@@ -84,7 +84,7 @@ not_one k (Sent w n i c id cur looks) h l p not = not_either (n == k) (served cu
 not_one k (Ended w n cause) h l p not = not_either (n == k) Over (stage_of k l) (λ is. is) not
 not_one k e h l p not = not
 
-not_newest : (k w : ℕ) (h : List Event) → Along OpensAt h → IsNewest (stage_of k (own w h)) → ⊥
+pub not_newest : (k w : ℕ) (h : List Event) → Along OpensAt h → IsNewest (stage_of k (own w h)) → ⊥
 not_newest k w [] a = λ is. is
 not_newest k w (e ∷ h) a =
     cond_both (is_by w e) (e ∷ own w h) (own w h) (λ l. IsNewest (stage_of k l) → ⊥) (λ _. not_one k e h (own w h) a.1 (not_newest k w h a.0)) (λ _. not_newest k w h a.0)
