@@ -1,2 +1,4 @@
 pub mod Making
 pub mod Answering
+pub mod Owning
+pub mod Bounding
