@@ -1,0 +1,6 @@
+pub mod Few
+pub mod Answered
+pub mod Apart
+pub mod Taking
+pub mod Asked
+pub mod Quieting
