@@ -4,4 +4,4 @@
 //! Below are the laws of spools and of reached worlds.
 #![tactic(auto)]
 
-mod asks;
+pub mod asks;

@@ -4,5 +4,5 @@
 //! Below are the calls of spools on a history (`nc_world_calls`) and the laws of reached worlds.
 #![tactic(auto)]
 
-mod owners;
-mod places;
+pub mod owners;
+pub mod places;
