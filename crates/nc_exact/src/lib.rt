@@ -4,5 +4,5 @@
 //! Below are lawful sends (`nc_sends`) and lawful starts (`nc_starts`).
 #![tactic(auto)]
 
-mod carrying;
-mod resuming;
+pub mod carrying;
+pub mod resuming;

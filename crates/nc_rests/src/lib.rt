@@ -5,7 +5,7 @@
 //! data (`nc_spool_state`). Above stands what is sent lawfully from such places.
 #![tactic(auto)]
 
-mod asking;
-mod holding;
-mod keeping;
-mod standing;
+pub mod asking;
+pub mod holding;
+pub mod keeping;
+pub mod standing;

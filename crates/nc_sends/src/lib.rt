@@ -5,5 +5,5 @@
 //! stands before it, and these laws say what follows for whole histories.
 #![tactic(auto)]
 
-mod gluing;
-mod sending;
+pub mod gluing;
+pub mod sending;

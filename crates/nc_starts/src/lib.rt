@@ -5,5 +5,5 @@
 //! before it, and stays lawful whatever is stored later.
 #![tactic(auto)]
 
-mod starting;
-mod telling;
+pub mod starting;
+pub mod telling;

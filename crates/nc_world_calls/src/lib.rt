@@ -5,6 +5,6 @@
 //! Below is what a call writes (`nc_world_told`); above, the worlds whose workers make these calls.
 #![tactic(auto)]
 
-mod answers;
-mod arrivals;
-mod notices;
+pub mod answers;
+pub mod arrivals;
+pub mod notices;

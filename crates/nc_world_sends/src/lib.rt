@@ -5,4 +5,4 @@
 //! event is good when it is made (`nc_exact`).
 #![tactic(auto)]
 
-mod sends;
+pub mod sends;

@@ -4,5 +4,5 @@
 //! Below are what places rest on (`nc_rests`), lawful sends (`nc_sends`) and a worker's deeds (`nc_worker_state`).
 #![tactic(auto)]
 
-mod deciding;
-mod writing;
+pub mod deciding;
+pub mod writing;
