@@ -58,7 +58,7 @@ use Rattle.nc_world_awaits.proofs.Asked.{looks_come_back}
 
 -- ---- places that await nothing
 
-no_asked : (ps : List Place) → ((n : ℕ) → total (look_at n) ps ≡ 0) → is_any_asked ps ≡ false
+pub no_asked : (ps : List Place) → ((n : ℕ) → total (look_at n) ps ≡ 0) → is_any_asked ps ≡ false
 no_asked [] none = refl
 no_asked (places.Asked m earlier ∷ ps) none = absurd (let k = none m in let here = ap one (eqb_self m) in omega (arith, k, here))
 no_asked (places.Nothing quiet ∷ ps) none = no_asked ps (λ n. let k = none n in omega (arith, k))
@@ -132,7 +132,7 @@ module _ (setup : Setup) (is : IsSetup setup) (h : List Event) (world : World) (
   not_on_its_way w n owner (inl some) = absurd (let empty = ap (λ ps. weigh (looking n) (lines_of ps)) (none w owner) in omega (arith, some, empty))
   not_on_its_way w n owner (inr some) = absurd (let empty = ap (λ ps. weigh (looked n) (lines_of ps)) (none owner w) in omega (arith, some, empty))
 
-  nothing_awaited : (w n : ℕ) → awaiting n (shelf_at world w) ≡ 0
+  pub nothing_awaited : (w n : ℕ) → awaiting n (shelf_at world w) ≡ 0
   nothing_awaited w n = by (awaiting n (shelf_at world w)) refl
     where
       clash : IsOnItsWay w n h → ⊥
@@ -219,7 +219,7 @@ module _ (setup : Setup) (is : IsSetup setup) (h : List Event) (world : World) (
 
 -- ---- the theme
 
-abbrev IsUnquiet : Event → Type 0
+abbrev pub IsUnquiet : Event → Type 0
 IsUnquiet Quiet = ⊥
 IsUnquiet _ = Unit {0}
 
@@ -231,16 +231,16 @@ quiet_onto : (es h : List Event) → AllByRecursion IsUnquiet es → IsQuietRule
 quiet_onto [] h k a = a
 quiet_onto (e ∷ es) h k a = quiet_onto es (e ∷ h) k.1 (a, quiet_one h e k.0)
 
-unquiet_owner : (w : ℕ) (e : Event) → IsOfOwner w e → IsUnquiet e
+pub unquiet_owner : (w : ℕ) (e : Event) → IsOfOwner w e → IsUnquiet e
 unquiet_owner w Quiet p = absurd p
 unquiet_owner w e p = tt
 
-unquiet_worker : (w : ℕ) (e : Event) → IsOfWorker w e → IsUnquiet e
+pub unquiet_worker : (w : ℕ) (e : Event) → IsOfWorker w e → IsUnquiet e
 unquiet_worker w Quiet p = absurd p
 unquiet_worker w e p = tt
 
 module _ (setup : Setup) (is : IsSetup setup) where
-  unquiet_opening : (w : ℕ) (i : Incoming) (world : World) → AllByRecursion IsUnquiet (before setup w i world)
+  pub unquiet_opening : (w : ℕ) (i : Incoming) (world : World) → AllByRecursion IsUnquiet (before setup w i world)
   unquiet_opening w (TakesPacket from p) world = (tt, tt)
   unquiet_opening w (ClockReads t) world = (tt, tt)
   unquiet_opening w Reaps world = tt

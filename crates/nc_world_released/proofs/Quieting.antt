@@ -1,69 +1,38 @@
 -- When no alert is pending no place is asked, so every hold was released.
-use Rattle.std.proofs.Common.{◌≡◌, ◌⊎◌, inl, inr, ℕ, false, zero, suc, ◌+◌, ◌≤◌, List, [], ◌∷◌, refl, sym, ap, subst, arith}
+use Rattle.std.proofs.Common.{◌≡◌, ℕ, false, List, [], ◌∷◌, sym, subst, arith}
 use Rattle.std.specs.List.{AllByRecursion}
 use Rattle.nc_journal.specs.History.{onto, Along}
 use Rattle.nc_journal.specs.declared.event.Event.{Event}
 use Rattle.nc_journal.specs.declared.event.Event.TheVariants.{Quiet}
-use Rattle.nc_owner_laws.specs.Kinds.{IsOfOwner}
-use Rattle.nc_spool_state.specs.declared.place.Place.{Place}
-use Rattle.nc_spool_state.specs.declared.place.Place.TheVariants as places
 use Rattle.nc_spool_state.specs.Choice.{is_any_asked}
 use Rattle.nc_spool_state.specs.Spool.{SpoolAt}
-use Rattle.nc_spool_laws.specs.Numbers.{one, total, look_at, looks_of}
-use Rattle.nc_history.specs.Packets.{pending, lines_of}
+use Rattle.nc_spool_laws.specs.Numbers.{total, looks_of}
+use Rattle.nc_history.specs.Packets.{pending}
 use Rattle.nc_worker_state.specs.Setup.{Setup}
-use Rattle.nc_worker_state.specs.Incoming.{Incoming, TakesPacket, ClockReads, Reaps, Posts, Subscribes, Informs}
+use Rattle.nc_worker_state.specs.Incoming.{Incoming, TakesPacket}
 use Rattle.nc_world.specs.World.{World, handled_events, pending_in}
 use Rattle.nc_world.specs.Moves.{Counts, counted}
 use Rattle.nc_world.specs.Reached.{IsSetup, Reached, Moves}
-use Rattle.nc_world_laws.specs.Kinds.{IsOfWorker}
 use Rattle.nc_world_laws.specs.Good.{Good}
 use Rattle.nc_world_laws.specs.WorldTheme.{IsWorldTheme}
-use Rattle.nc_world_laws.proofs.Local.{eqb_self}
 use Rattle.nc_world_laws.proofs.Parts.{before, part, behind, part_all, behind_all}
 use Rattle.nc_world_laws.proofs.Frames.{handled_onto}
 use Rattle.nc_world_laws.proofs.WorldThemes.{world_theme_holds}
 use Rattle.nc_world_owners.proofs.ReachedHistories.{counts_are_told}
 use Rattle.nc_world_places.specs.Places.{shelf_at}
-use Rattle.nc_world_looks.specs.Looks.{looking, looked, weigh}
 use Rattle.nc_world_unheld.proofs.Resting.{unheld_at_rest}
-use Rattle.nc_world_awaits.specs.Awaits.{awaiting, IsOnItsWay}
-use Rattle.nc_world_awaits.proofs.Asked.{looks_come_back}
+use Rattle.nc_world_awaits.proofs.Quieting.{no_asked, nothing_awaited, IsUnquiet, unquiet_owner, unquiet_worker, unquiet_opening}
 use Rattle.nc_world_released.specs.Released.{HeldNowhere, HistoriesRelease}
-
-no_asked : (ps : List Place) → ((n : ℕ) → total (look_at n) ps ≡ 0) → is_any_asked ps ≡ false
-no_asked [] none = refl
-no_asked (places.Asked m earlier ∷ ps) none = absurd (let k = none m in let here = ap one (eqb_self m) in omega (arith, k, here))
-no_asked (places.Nothing quiet ∷ ps) none = no_asked ps (λ n. let k = none n in omega (arith, k))
-no_asked (places.Found q id owner g ∷ ps) none = no_asked ps (λ n. let k = none n in omega (arith, k))
 
 all_unasked : (shelf : List SpoolAt) → ((n : ℕ) → total (looks_of n) shelf ≡ 0) → AllByRecursion (λ s. is_any_asked s.places ≡ false) shelf
 all_unasked [] none = tt
 all_unasked (s ∷ shelf) none = (no_asked s.places (λ n. let k = none n in omega (arith, k)), all_unasked shelf (λ n. let k = none n in omega (arith, k)))
 
 module _ (setup : Setup) (is : IsSetup setup) (h : List Event) (world : World) (reached : Reached setup h world) (none : (v w : ℕ) → pending v w h ≡ []) where
-  not_on_its_way : (w n owner : ℕ) → (1 ≤ weigh (looking n) (lines_of (pending w owner h))) ⊎ (1 ≤ weigh (looked n) (lines_of (pending owner w h))) → ⊥
-  not_on_its_way w n owner (inl some) = absurd (let empty = ap (λ ps. weigh (looking n) (lines_of ps)) (none w owner) in omega (arith, some, empty))
-  not_on_its_way w n owner (inr some) = absurd (let empty = ap (λ ps. weigh (looked n) (lines_of ps)) (none owner w) in omega (arith, some, empty))
-
-  nothing_awaited : (w n : ℕ) → awaiting n (shelf_at world w) ≡ 0
-  nothing_awaited w n = by (awaiting n (shelf_at world w)) refl
-    where
-      clash : IsOnItsWay w n h → ⊥
-      clash k = not_on_its_way w n k.owner k.pends
-
-      by : (m : ℕ) → awaiting n (shelf_at world w) ≡ m → awaiting n (shelf_at world w) ≡ 0
-      by zero e = e
-      by (suc m) e = absurd (clash (looks_come_back setup h world is reached w n (omega (arith, e))))
-
   held_nowhere : HeldNowhere h Quiet
-  held_nowhere = (unheld_at_rest setup h world is reached (record { nothing = none; unasked = λ w. all_unasked (shelf_at world w) (nothing_awaited w) })).released
+  held_nowhere = (unheld_at_rest setup h world is reached (record { nothing = none; unasked = λ w. all_unasked (shelf_at world w) (nothing_awaited setup is h world reached none w) })).released
 
 -- ---- the theme
-
-abbrev IsUnquiet : Event → Type 0
-IsUnquiet Quiet = ⊥
-IsUnquiet _ = Unit {0}
 
 held_one : (h : List Event) (e : Event) → IsUnquiet e → HeldNowhere h e
 held_one h Quiet k = absurd k
@@ -73,30 +42,14 @@ held_onto : (es h : List Event) → AllByRecursion IsUnquiet es → Along HeldNo
 held_onto [] h k a = a
 held_onto (e ∷ es) h k a = held_onto es (e ∷ h) k.1 (a, held_one h e k.0)
 
-unquiet_owner : (w : ℕ) (e : Event) → IsOfOwner w e → IsUnquiet e
-unquiet_owner w Quiet p = absurd p
-unquiet_owner w e p = tt
-
-unquiet_worker : (w : ℕ) (e : Event) → IsOfWorker w e → IsUnquiet e
-unquiet_worker w Quiet p = absurd p
-unquiet_worker w e p = tt
-
 module _ (setup : Setup) (is : IsSetup setup) where
-  unquiet_opening : (w : ℕ) (i : Incoming) (world : World) → AllByRecursion IsUnquiet (before setup w i world)
-  unquiet_opening w (TakesPacket from p) world = (tt, tt)
-  unquiet_opening w (ClockReads t) world = (tt, tt)
-  unquiet_opening w Reaps world = tt
-  unquiet_opening w (Posts c body) world = (tt, tt)
-  unquiet_opening w (Subscribes k list start) world = (tt, tt)
-  unquiet_opening w (Informs c) world = (tt, tt)
-
   step_held : (w : ℕ) (i : Incoming) (h : List Event) (world : World) → Good setup h world → Along HeldNowhere h → Along HeldNowhere (onto (handled_events setup w i world) h)
   step_held w i h world g a =
       let opened = onto (before setup w i world) h in
       subst (Along HeldNowhere) (sym (handled_onto setup is w i h world g h))
       (held_onto (behind setup w i world) (onto (part w i world) opened) (behind_all setup is w i h world g IsUnquiet (unquiet_worker w) (λ to n l. tt))
       (held_onto (part w i world) opened (part_all setup is w i h world g IsUnquiet (unquiet_owner w) (λ to n l. tt))
-      (held_onto (before setup w i world) h (unquiet_opening w i world) a)))
+      (held_onto (before setup w i world) h (unquiet_opening setup is w i world) a)))
 
   at_quiet : (h : List Event) (world : World) → Reached setup h world → pending_in setup world ≡ 0 → HeldNowhere h Quiet
   at_quiet h world reached same =
