@@ -62,6 +62,20 @@ impl Owner {
         self.desk.clock = Moment::of(now);
     }
 
+    /// The number that its next look draws.
+    pub fn looks(&self) -> u64
+        ensures { result ≡ self.now.desk.looks }
+    {
+        self.desk.looks
+    }
+
+    /// The number that its next grant draws.
+    pub fn grants(&self) -> u64
+        ensures { result ≡ self.now.desk.grants }
+    {
+        self.desk.grants
+    }
+
     /// The names of the existing channels, in ascending order.
     pub fn names(&self) -> Result<List<ChanName>, NoMemory>
         ensures { IfOk result (λ names. names ≡ names_of self.now) }

@@ -86,6 +86,13 @@ impl<H: Drop> Spools<H> {
         }
     }
 
+    /// The number that the next look or edge draws.
+    pub fn next(&self) -> u64
+        ensures { result ≡ self.now.next }
+    {
+        self.board.next
+    }
+
     /// Subscriber `k` comes, who ends with the first message if `once` is true.
     pub fn arrive(
         &mut self,
