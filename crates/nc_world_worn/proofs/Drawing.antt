@@ -1,0 +1,126 @@
+-- Each call of spools draws the next numbers, one for each look or edge that it asks for.
+use Rattle.std.proofs.Common.{◌≡◌, ℕ, ◌+◌, Bool, true, false, cond, List, [], ◌∷◌, refl, arith}
+use Rattle.std.specs.Prelude.{slice_index_or}
+use Rattle.nc_types.specs.Id.{Id}
+use Rattle.nc_spool_state.specs.declared.edge.Edge.{Edge as EdgeState}
+use Rattle.nc_spool_state.specs.declared.place.Place.{Place}
+use Rattle.nc_spool_state.specs.Choice.{is_below}
+use Rattle.nc_spool_state.specs.Edge.{is_behind, newest_time}
+use Rattle.nc_spool_state.specs.Key.{KeyAt, name_at, id_at}
+use Rattle.nc_spool_state.specs.Spool.{SpoolAt}
+use Rattle.nc_spool_state.specs.Starting.{StartingAt}
+use Rattle.nc_spool.specs.declared.ask.Ask.{Ask}
+use Rattle.nc_spool.specs.declared.ask.Ask.TheVariants.{Look, Edge, Join, Part}
+use Rattle.nc_spool.specs.declared.board.Board.{Board}
+use Rattle.nc_spool.specs.declared.fact.Fact.{Fact}
+use Rattle.nc_spool.specs.declared.fact.Fact.TheVariants.{Out, Started, Sent, Ended}
+use Rattle.nc_spool.specs.Board.{told, looked, asked_from}
+use Rattle.nc_spool.specs.Decide.{fence_look, fence_looks}
+use Rattle.nc_spool.specs.Newest.{asked_edge, edges_from, edge_behind, edges_behind}
+use Rattle.nc_spool_laws.specs.Closed.{IsClosed, IsKept}
+use Rattle.nc_spool_laws.specs.Numbers.{total}
+use Rattle.nc_spool_laws.specs.Standing.{AnyNews, AnyAnswer, AnyLast, AnyKey, AnyFind}
+use Rattle.nc_spool_laws.proofs.Totals.{total-push}
+use Rattle.nc_spool_laws.proofs.Walk.{all-kept}
+
+-- how many numbers an ask and a fact draw
+abbrev pub ask_draws : Ask → ℕ
+ask_draws (Look number c after fence) = 1
+ask_draws (Edge number k c fence) = 1
+ask_draws (Join c k) = 0
+ask_draws (Part c k) = 0
+
+abbrev pub draws : Fact → ℕ
+draws (Out asking) = ask_draws asking.ask
+draws (Started k cursor) = 0
+draws (Sent sending) = 0
+draws (Ended k deleted) = 0
+
+-- the next number of a board is so far behind a first one
+abbrev pub IsDrawn : ℕ → Board → Type 0
+IsDrawn first b = b.next ≡ first + total draws b.facts
+
+abbrev pub DrawnBeside : ℕ → SpoolAt → Board → Type 0
+DrawnBeside first s b = IsDrawn first b
+
+abbrev pub DrawnApart : ℕ → StartingAt → Board → Type 0
+DrawnApart first s b = IsDrawn first b
+
+module _ (first : ℕ) where
+  none_told : (f : Fact) (b : Board) → draws f ≡ 0 → IsDrawn first b → IsDrawn first (told f b)
+  none_told f b none i = let p = total-push draws b.facts f in omega (arith, i, none, p)
+
+  one_told : (f : Fact) (b : Board) → draws f ≡ 1 → IsDrawn first b → IsDrawn first (told f (record b { next = b.next + 1 }))
+  one_told f b one i = let p = total-push draws b.facts f in omega (arith, i, one, p)
+
+  drawn_look : (c : List ℕ) (after : Id) (fence : ℕ) (b : Board) → IsDrawn first b → IsDrawn first (looked c after fence b)
+  drawn_look c after fence b i = one_told _ b refl i
+
+  drawn_asked : (key : KeyAt) (j : ℕ) (names : List (List ℕ)) (b : Board) → IsDrawn first b → IsDrawn first (asked_from key j names b)
+  drawn_asked key j [] b i = i
+  drawn_asked key j (c ∷ names) b i = drawn_asked key (j + 1) names (looked c (id_at key j) 0 b) (drawn_look c (id_at key j) 0 b i)
+
+  drawn_fence : (time : ℕ) (key : KeyAt) (j : ℕ) (p : Place) (b : Board) → IsDrawn first b → IsDrawn first (fence_look time key j p b)
+  drawn_fence time key j p b i = by (is_below time p)
+    where
+      by : (t : Bool) → IsDrawn first (cond t (looked (name_at key j) (id_at key j) time b) b)
+      by true = drawn_look (name_at key j) (id_at key j) time b i
+      by false = i
+
+  drawn_fences : (time : ℕ) (key : KeyAt) (j : ℕ) (places : List Place) (b : Board) → IsDrawn first b → IsDrawn first (fence_looks time key j places b)
+  drawn_fences time key j [] b i = i
+  drawn_fences time key j (p ∷ places) b i = drawn_fences time key (j + 1) places (fence_look time key j p b) (drawn_fence time key j p b i)
+
+  drawn_edge : (k : ℕ) (c : List ℕ) (fence : ℕ) (b : Board) → IsDrawn first b → IsDrawn first (asked_edge k c fence b)
+  drawn_edge k c fence b i = one_told _ b refl i
+
+  drawn_edges : (k : ℕ) (names : List (List ℕ)) (b : Board) → IsDrawn first b → IsDrawn first (edges_from k names b)
+  drawn_edges k [] b i = i
+  drawn_edges k (c ∷ names) b i = drawn_edges k names (asked_edge k c 0 b) (drawn_edge k c 0 b i)
+
+  drawn_behind : (time k : ℕ) (c : List ℕ) (edge : EdgeState) (b : Board) → IsDrawn first b → IsDrawn first (edge_behind time k c edge b)
+  drawn_behind time k c edge b i = by (is_behind time edge)
+    where
+      by : (t : Bool) → IsDrawn first (cond t (asked_edge k c time b) b)
+      by true = drawn_edge k c time b i
+      by false = i
+
+  drawn_behinds : (time k : ℕ) (list : List (List ℕ)) (j : ℕ) (edges : List EdgeState) (b : Board) → IsDrawn first b → IsDrawn first (edges_behind time k list j edges b)
+  drawn_behinds time k list j [] b i = i
+  drawn_behinds time k list j (e ∷ edges) b i = drawn_behinds time k list (j + 1) edges (edge_behind time k (slice_index_or list j []) e b) (drawn_behind time k (slice_index_or list j []) e b i)
+
+  drawn_closed : IsClosed AnyNews AnyAnswer AnyLast AnyKey AnyFind (IsDrawn first) (DrawnBeside first) (DrawnApart first)
+  drawn_closed = record {
+    sends = record {
+      part = λ k c b i. none_told _ b refl i;
+      end = λ k deleted b i. none_told _ b refl i;
+      ready = λ find s b was i. tt;
+      send = λ find s r b ready i. none_told _ b refl i;
+      take = λ test s b was i. i;
+      put = λ s b i. i;
+      drop = λ s b i. i;
+      open_new = λ key r b none fits i. drawn_asked key 0 key.list b i;
+      fits = λ find s ready. tt;
+      enter = λ r s b i. i;
+      fence = λ time s b was unasked i. drawn_fences time s.key 0 s.places b i;
+    };
+    join = λ k c b i. none_told _ b refl i;
+    start = λ k cursor b i. none_told _ b refl i;
+    leave = λ k s b i some. i;
+    look = λ c j s b at i. drawn_look (name_at s.key j) (id_at s.key j) 0 b i;
+    forget = λ c j m quiet s b at was i. i;
+    quieten = λ number j quiet news s b at right nothing i. i;
+    discover = λ number j quiet news s b at right later i. i;
+    hear = λ c j quiet news s b at rests good later i. i;
+    take_start = λ test s b was i. i;
+    put_start = λ s b i. i;
+    drop_start = λ s b i. i;
+    new_start = λ r list b fits i. drawn_edges r.k list b i;
+    hear_edge = λ j floor last s b told i. i;
+    newest_fits = λ s b i. tt;
+    cursor_fits = λ cursor s b was i. tt;
+    fence_edges = λ s b i. drawn_behinds (newest_time s.edges) s.reader.k s.list 0 s.edges b i;
+  }
+
+  pub drawn_kept : IsKept AnyNews AnyAnswer AnyLast AnyKey AnyFind (IsDrawn first) (DrawnBeside first) (DrawnApart first)
+  drawn_kept = all-kept AnyNews AnyAnswer AnyLast AnyKey AnyFind (IsDrawn first) (DrawnBeside first) (DrawnApart first) drawn_closed
