@@ -53,6 +53,13 @@ impl<H: Drop> Desk<H> {
         }
     }
 
+    /// The number that the next look or edge draws.
+    pub fn looks(&self) -> u64
+        ensures { result ≡ self.now.spools.next }
+    {
+        self.spools.next()
+    }
+
     /// The number of the next request.
     pub fn requests(&self) -> u64
         ensures { result ≡ self.now.requests }

@@ -1,0 +1,5 @@
+pub mod Acting
+pub mod Returning
+pub mod Handling
+pub mod Hearing
+pub mod Leaving
