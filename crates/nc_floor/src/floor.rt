@@ -40,7 +40,7 @@ pub(crate) fn hire<W: Hand>(alloc: Global, conf: &Config, first: u64) -> Result<
 }
 
 /// A configuration sets up one to sixteen workers, and direct posts with a message's timeout.
-pub(crate) fn sets_up(conf: &Config)
+pub fn sets_up(conf: &Config)
     ensures { (first : ℕ) → IsSetup (setup_of conf.now first) }
 {
     let _workers = conf.workers;

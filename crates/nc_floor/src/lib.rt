@@ -12,7 +12,7 @@ mod moves;
 mod opening;
 mod tries;
 
-pub use floor::Floor;
+pub use floor::{Floor, sets_up};
 pub use hand::Hand;
 pub use moves::{count, handle, rest};
 pub use opening::{finish, is_quiet, open};
