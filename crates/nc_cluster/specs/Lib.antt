@@ -1,3 +1,5 @@
 pub mod Line
+pub mod Comers
 pub mod Made
 pub mod Cluster
+pub mod Stands

@@ -1,12 +1,15 @@
 -- Lines as those of the pure world, and what a line keeps.
-use Rattle.std.specs.Prelude.{ℕ, ◌<◌}
+use Rattle.std.specs.Prelude.{ℕ, ◌<◌, List, length}
+use Rattle.nc_types.specs.Channel.{AreDistinct}
+use Rattle.nc_types.specs.declared.start.Start.{Start}
 use Rattle.nc_owner.specs.Moment.{IsClock}
 use Rattle.nc_spool.specs.Arrive.{FitsList}
 use Rattle.nc_world.specs.Lines as pure
-use Rattle.nc_cluster.specs.declared.line.ClusterLine.{ClusterLine}
-use Rattle.nc_cluster.specs.declared.line.ClusterLine.TheVariants as lines
+use Rattle.nc_world.specs.Reached.{IsStart}
+use Rattle.nc_script.specs.declared.line.Line.{Line}
+use Rattle.nc_script.specs.declared.line.Line.TheVariants as lines
 
-abbrev pub pure_line : ClusterLine → pure.Line
+abbrev pub pure_line : Line → pure.Line
 pure_line lines.Blank = pure.Blank
 pure_line (lines.Clock w t) = pure.Clocks w t
 pure_line (lines.Reap w) = pure.Reap w
@@ -17,8 +20,14 @@ pure_line (lines.Post w c body) = pure.Post w c body
 pure_line (lines.Poll w k list start) = pure.Poll w k list start
 pure_line (lines.Inform w c) = pure.Inform w c
 
--- its workers are there, a clock keeps its limit, and a given start has a tag for each name of its list
-abbrev pub CanMake : ℕ → ClusterLine → Type 0
+-- a list names channels, each once, and one starts as one may
+pub record IsListed (list : List (List ℕ)) (start : Start) : Type 0 where
+  pub distinct : AreDistinct list
+  pub named : 0 < length list
+  pub starts : IsStart start
+
+-- its workers are there, a clock keeps its limit, and a subscriber's list and start are as they should be
+abbrev pub CanMake : ℕ → Line → Type 0
 CanMake workers lines.Blank = Unit {0}
 CanMake workers (lines.Clock w t) = (w < workers) × IsClock t
 CanMake workers (lines.Reap w) = w < workers
@@ -26,5 +35,5 @@ CanMake workers (lines.Carry w to) = (w < workers) × (to < workers)
 CanMake workers (lines.Take w from) = (w < workers) × (from < workers)
 CanMake workers (lines.Settle n) = Unit {0}
 CanMake workers (lines.Post w c body) = w < workers
-CanMake workers (lines.Poll w k list start) = (w < workers) × FitsList list start
+CanMake workers (lines.Poll w k list start) = (w < workers) × FitsList list start × IsListed list start
 CanMake workers (lines.Inform w c) = w < workers

@@ -5,10 +5,13 @@ ghost use Rattle.nc_world_laws.specs.Outside.{IsOutside};
 ghost use Rattle.nc_floor.specs.Hand.{IsRight};
 ghost use Rattle.nc_floor.specs.Floor.{IsFloor};
 ghost use Rattle.nc_cluster.specs.Line.{pure_line, CanMake};
+ghost use Rattle.nc_cluster.specs.Comers.{with_made};
 ghost use Rattle.nc_cluster.specs.Made.{has_moved, HandsIn, Carrying, Taking, Settling, Makes};
 
-use crate::line::ClusterLine;
+use crate::fitting::{comer, note};
 use nc_floor::{Floor, Hand, carry, count, handle, is_worn, rest, settle, take};
+use nc_owner::Members;
+use nc_script::Line;
 use nc_settle::{Settled, Turn};
 use nc_slots::{PlainHold, PlainSlots, Slots};
 use nc_types::NoMemory;
@@ -92,7 +95,7 @@ fn settle_line<W: Hand>(floor: &mut Floor<W>, n: u64) -> Result<Settled, NoMemor
 }
 
 /// Makes a line, or as much of it as comes before a worn worker.
-pub fn play<W: Hand>(floor: &mut Floor<W>, line: ClusterLine) -> Result<Settled, NoMemory>
+pub fn play<W: Hand>(floor: &mut Floor<W>, line: Line) -> Result<Settled, NoMemory>
     requires floor { IsFloor W.worker W.sound ⟦<PlainSlots as Slots>⟧.held floor.old }
     requires told { floor.old.told ≡ [] }
     requires line { CanMake floor.old.conf.workers line }
@@ -100,18 +103,37 @@ pub fn play<W: Hand>(floor: &mut Floor<W>, line: ClusterLine) -> Result<Settled,
     ensures made { IfOk result (λ ended. Makes W.worker (pure_line line) ended floor.old floor.new) }
 {
     match line {
-        ClusterLine::Blank => Ok(Settled::Whole),
-        ClusterLine::Clock { w, t } => hand_in(floor, w, Input::Clock(t)),
-        ClusterLine::Reap { w } => hand_in(floor, w, Input::Reap),
-        ClusterLine::Carry { w, to } => carry_line(floor, w, to),
-        ClusterLine::Take { w, from } => take_line(floor, w, from),
-        ClusterLine::Settle { n } => settle_line(floor, n),
-        ClusterLine::Post { w, chan, body } => hand_in(floor, w, Input::Post { chan, body }),
-        ClusterLine::Poll { w, k, list, start } => hand_in(
-            floor,
-            w,
-            Input::Poll { k, list, start },
-        ),
-        ClusterLine::Inform { w, chan } => hand_in(floor, w, Input::Inform { chan }),
+        Line::Blank => Ok(Settled::Whole),
+        Line::Clock { w, t } => hand_in(floor, w, Input::Clock(t)),
+        Line::Reap { w } => hand_in(floor, w, Input::Reap),
+        Line::Carry { w, to } => carry_line(floor, w, to),
+        Line::Take { w, from } => take_line(floor, w, from),
+        Line::Settle { n } => settle_line(floor, n),
+        Line::Post { w, chan, body } => hand_in(floor, w, Input::Post { chan, body }),
+        Line::Poll { w, k, list, start } => hand_in(floor, w, Input::Poll { k, list, start }),
+        Line::Inform { w, chan } => hand_in(floor, w, Input::Inform { chan }),
+    }
+}
+
+/// Makes a line, or as much of it as comes before a worn worker. Who comes with a line that was wholly made is a subscriber from then on.
+pub(crate) fn play_and_note<W: Hand>(
+    floor: &mut Floor<W>,
+    subscribers: &mut Members,
+    line: Line,
+) -> Result<Settled, NoMemory>
+    requires floor { IsFloor W.worker W.sound ⟦<PlainSlots as Slots>⟧.held floor.old }
+    requires told { floor.old.told ≡ [] }
+    requires line { CanMake floor.old.conf.workers line }
+    ensures floor { OnOk result (IsFloor W.worker W.sound ⟦<PlainSlots as Slots>⟧.held floor.new) }
+    ensures made { IfOk result (λ ended. Makes W.worker (pure_line line) ended floor.old floor.new) }
+    ensures noted { IfOk result (λ ended. subscribers.new ≡ with_made ended (pure_line line) subscribers.old) }
+{
+    let coming = comer(&line);
+    match play(floor, line)? {
+        Settled::Whole => {
+            note(subscribers, coming)?;
+            Ok(Settled::Whole)
+        }
+        Settled::Worn { moves } => Ok(Settled::Worn { moves }),
     }
 }

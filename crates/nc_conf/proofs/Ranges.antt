@@ -127,9 +127,7 @@ pub body_within : (ds : List Directive) (block : Option ℕ) → IsBodyLimit (nu
 body_within ds block = setting_between 1 65536 65536 (codes "client_max_body_size") _ ds block refl (λ t. within_between 1 65536 (measured size_unit t)) (omega arith, omega arith)
 
 pub workers_within : (ds : List Directive) → IsWorkers (number_or 1 (line_in ds None (codes "worker_processes")))
-workers_within ds =
-    let one : IsBetween 1 1 (number_or 1 (line_in ds None (codes "worker_processes"))) = number_or_between 1 1 1 (codes "worker_processes") _ (line_in ds None (codes "worker_processes")) refl (number_between 1 1) (omega arith, omega arith) (line_named ds None (codes "worker_processes")) in
-    (one.0, omega (arith, one.1))
+workers_within ds = number_or_between 1 16 1 (codes "worker_processes") _ (line_in ds None (codes "worker_processes")) refl (number_between 1 16) (omega arith, omega arith) (line_named ds None (codes "worker_processes"))
 
 pub slots_within : (ds : List Directive) (block : Option ℕ) → IsSlots (number_or 1024 (line_in ds block (codes "nchan_slots")))
 slots_within ds block = number_or_between 1 4096 1024 (codes "nchan_slots") _ (line_in ds block (codes "nchan_slots")) refl (number_between 1 4096) (omega arith, omega arith) (line_named ds block (codes "nchan_slots"))

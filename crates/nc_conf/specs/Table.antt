@@ -41,7 +41,7 @@ settings =
 -- each directive with its name
 abbrev pub rows : List (List ℕ × Row)
 rows =
-    (codes "worker_processes", line (In Main) 1 1 (shapes.Number 1 1))
+    (codes "worker_processes", line (In Main) 1 1 (shapes.Number 1 16))
     ∷ (codes "events", block Main Events)
     ∷ (codes "worker_connections", line (In Events) 1 1 (shapes.Number 1 65535))
     ∷ (codes "http", block Main Http)

@@ -123,7 +123,7 @@ pub fn row_of(name: &[u8]) -> Option<Row>
     ensures { result ≡ row_of name.now }
 {
     if name == b"worker_processes".as_slice() {
-        Some(line(Standing::In(Block::Main), 1, 1, number(1, 1)))
+        Some(line(Standing::In(Block::Main), 1, 1, number(1, 16)))
     } else if name == b"events".as_slice() {
         Some(block_row(Block::Main, Block::Events))
     } else if name == b"worker_connections".as_slice() {

@@ -1,2 +1,2 @@
 mod First
-mod Distinct
+pub mod Distinct

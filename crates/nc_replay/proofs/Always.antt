@@ -8,20 +8,21 @@ use Rattle.nc_conf.specs.Answer.{NeverBoth}
 use Rattle.nc_outside.specs.Pieces.{GivesMore}
 use Rattle.nc_outside.proofs.Pieces.{gives_once, gives_all_once, never_goes_on}
 use Rattle.nc_replay.specs.Script.{IsMisconfigured, IsFaulty}
-use Rattle.nc_replay.specs.Sure.{IsNeverBoth, NeverFails}
+use Rattle.nc_replay.specs.Sure.{IsNeverBoth, NeverFails, NeverWears, FailsOrWears}
 use Rattle.nc_replay.specs.Input.{longest_input, ReadsAll, ReadsUpTo, ReadsSome}
-use Rattle.nc_replay.specs.Top.{IsReplay, IsCheck, IsStatus, IsStopped, IsUnread, Fails, RefusedBy, MisconfiguredBy, RejectedBy, OfAllInput, MustBeShort, Replays, Refuses, Misconfigures, Accepts}
+use Rattle.nc_replay.specs.Top.{IsReplay, IsCheck, IsStatus, IsStopped, IsUnread, Passes, Fails, Wears, RefusedBy, WornBy, PassedBy, MisconfiguredBy, RejectedBy, OfAllInput, MustBeShort, Replays, Refuses, WearsOut, Misconfigures, Accepts}
 
 -- by the status, what is to hold or the work stopped
-by_status : (n : ℕ) (P : Type 0) → IsStatus n → (n ≡ 0 → P ⊎ IsStopped n) → (n ≡ 2 → ⊥) → (n ≡ 3 → P ⊎ IsStopped n) → (n ≡ 8 → P ⊎ IsStopped n) → P ⊎ IsStopped n
-by_status n P (inl zero) passed usage refused other = passed zero
-by_status n P (inr (inl two)) passed usage refused other = absurd (usage two)
-by_status n P (inr (inr (inl three))) passed usage refused other = refused three
-by_status n P (inr (inr (inr (inl four)))) passed usage refused other = inr (inl four)
-by_status n P (inr (inr (inr (inr (inl five))))) passed usage refused other = inr (inr (inl five))
-by_status n P (inr (inr (inr (inr (inr (inl six)))))) passed usage refused other = inr (inr (inr (inl six)))
-by_status n P (inr (inr (inr (inr (inr (inr (inl seven))))))) passed usage refused other = inr (inr (inr (inr seven)))
-by_status n P (inr (inr (inr (inr (inr (inr (inr eight))))))) passed usage refused other = other eight
+by_status : (n : ℕ) (P : Type 0) → IsStatus n → (n ≡ 0 → P ⊎ IsStopped n) → (n ≡ 2 → ⊥) → (n ≡ 3 → P ⊎ IsStopped n) → (n ≡ 8 → P ⊎ IsStopped n) → (n ≡ 9 → P ⊎ IsStopped n) → P ⊎ IsStopped n
+by_status n P (inl zero) passed usage refused other worn = passed zero
+by_status n P (inr (inl two)) passed usage refused other worn = absurd (usage two)
+by_status n P (inr (inr (inl three))) passed usage refused other worn = refused three
+by_status n P (inr (inr (inr (inl four)))) passed usage refused other worn = inr (inl four)
+by_status n P (inr (inr (inr (inr (inl five))))) passed usage refused other worn = inr (inr (inl five))
+by_status n P (inr (inr (inr (inr (inr (inl six)))))) passed usage refused other worn = inr (inr (inr (inl six)))
+by_status n P (inr (inr (inr (inr (inr (inr (inl seven))))))) passed usage refused other worn = inr (inr (inr (inr seven)))
+by_status n P (inr (inr (inr (inr (inr (inr (inr (inl eight)))))))) passed usage refused other worn = other eight
+by_status n P (inr (inr (inr (inr (inr (inr (inr (inr nine)))))))) passed usage refused other worn = worn nine
 
 -- a text is all that the input can be
 abbrev IsInput : List ℕ → Option (List ℕ) → Option (List ℕ) → List (List ℕ) → List (List ℕ) → Type 0
@@ -33,51 +34,107 @@ of_all P None rest before behind each = (tt, λ text gives. each text (λ s read
 of_all P (Some bytes) rest before behind each = (each bytes (λ s reads. reads.whole.0), λ text gives. each text (λ s reads. gives_all_once s text before behind reads.given gives))
 
 -- what the statuses of a replay say
-pub record OfReplay (n : ℕ) (left rest : Option (List ℕ)) (before behind : List (List ℕ)) (old new : List ℕ) : Type 0 where
+pub record OfReplay (first n : ℕ) (left rest : Option (List ℕ)) (before behind : List (List ℕ)) (old new : List ℕ) : Type 0 where
   pub status : IsStatus n
-  pub passed : n ≡ 0 → Replays left rest before behind old new
+  pub passed : n ≡ 0 → Replays first left rest before behind old new
   pub command : n ≡ 2 → ⊥
-  pub refused : n ≡ 3 → Refuses left rest before behind old new
+  pub refused : n ≡ 3 → Refuses first left rest before behind old new
   pub misconfigured : n ≡ 8 → Misconfigures left rest before behind old new
+  pub worn : n ≡ 9 → WearsOut first left rest before behind old new
 
-misconfigured-of : IsNeverBoth → (n : ℕ) (left rest : Option (List ℕ)) (before behind : List (List ℕ)) (old new : List ℕ) → OfReplay n left rest before behind old new
-    → (text : List ℕ) → IsInput text left rest before behind → MisconfiguredBy n text
-misconfigured-of both n left rest before behind old new says text same rule at bad =
-    by_status n (n ≡ 8) says.status
-    (λ zero.
-    let run = says.passed zero in
-    let passes = run.written.passes in
-    absurd (both run.script passes.before passes.made passes.config rule at passes.configured (subst (λ (s : List ℕ). IsMisconfigured s rule at) (sym (same run.script run.read)) bad)))
-    says.command
-    (λ three.
-    let run = says.refused three in
-    let fails = run.written.fails in
-    absurd (both run.script fails.before _ fails.config rule at fails.configured (subst (λ (s : List ℕ). IsMisconfigured s rule at) (sym (same run.script run.read)) bad)))
-    (λ eight. inl eight)
+-- no script ends in two ways
+pub record EndsOnce : Type 0 where
+  pub both : IsNeverBoth
+  pub fails : NeverFails
+  pub wears : NeverWears
+  pub either : FailsOrWears
 
-pub misconfigured-always : IsNeverBoth → (n : ℕ) (left rest : Option (List ℕ)) (before behind : List (List ℕ)) (old new : List ℕ) → OfReplay n left rest before behind old new → OfAllInput (MisconfiguredBy n) left before behind
-misconfigured-always both n left rest before behind old new says = of_all (MisconfiguredBy n) left rest before behind (misconfigured-of both n left rest before behind old new says)
+module _ (once : EndsOnce) (first n : ℕ) (left rest : Option (List ℕ)) (before behind : List (List ℕ)) (old new : List ℕ) (says : OfReplay first n left rest before behind old new) where
+  -- what holds of the input's text holds of the one that was read
+  of-read : (text : List ℕ) (P : List ℕ → Type 0) → IsInput text left rest before behind → P text → (s : List ℕ) → ReadsAll s left rest before behind → P s
+  of-read text P same holds s reads = subst P (sym (same s reads)) holds
 
-refused-of : IsNeverBoth → NeverFails → (n : ℕ) (left rest : Option (List ℕ)) (before behind : List (List ℕ)) (old new : List ℕ) → OfReplay n left rest before behind old new
-    → (text : List ℕ) → IsInput text left rest before behind → RefusedBy n text
-refused-of both never n left rest before behind old new says text same h fault bad =
-    by_status n (n ≡ 3) says.status
-    (λ zero.
-    let run = says.passed zero in
-    absurd (never run.script run.written.h h fault run.written.passes (subst (λ (s : List ℕ). Fails s h fault) (sym (same run.script run.read)) bad)))
-    says.command
-    (λ three. inl three)
-    (λ eight.
-    let run = says.misconfigured eight in
-    let fails = subst (λ (s : List ℕ). Fails s h fault) (sym (same run.script run.read)) bad in
-    absurd (both run.script fails.before _ fails.config run.written.fault.rule run.written.fault.at fails.configured run.written.misconfigured))
+  misconfigured-of : (text : List ℕ) → IsInput text left rest before behind → MisconfiguredBy n text
+  misconfigured-of text same rule at bad =
+      by_status n (n ≡ 8) says.status
+      (λ zero.
+      let run = says.passed zero in
+      let passes = run.written.passes in
+      absurd (once.both run.script passes.before passes.texts passes.config rule at passes.configured (of-read text (λ (s : List ℕ). IsMisconfigured s rule at) same bad run.script run.read)))
+      says.command
+      (λ three.
+      let run = says.refused three in
+      let fails = run.written.fails in
+      absurd (once.both run.script fails.before _ fails.config rule at fails.configured (of-read text (λ (s : List ℕ). IsMisconfigured s rule at) same bad run.script run.read)))
+      (λ eight. inl eight)
+      (λ nine.
+      let run = says.worn nine in
+      let wears = run.written.wears in
+      absurd (once.both run.script wears.before _ wears.config rule at wears.configured (of-read text (λ (s : List ℕ). IsMisconfigured s rule at) same bad run.script run.read)))
 
-pub refused-always : IsNeverBoth → NeverFails → (n : ℕ) (left rest : Option (List ℕ)) (before behind : List (List ℕ)) (old new : List ℕ) → OfReplay n left rest before behind old new → OfAllInput (RefusedBy n) left before behind
-refused-always both never n left rest before behind old new says = of_all (RefusedBy n) left rest before behind (refused-of both never n left rest before behind old new says)
+  pub misconfigured-always : OfAllInput (MisconfiguredBy n) left before behind
+  misconfigured-always = of_all (MisconfiguredBy n) left rest before behind misconfigured-of
 
-rejected-of : NeverBoth → (n : ℕ) (left rest : Option (List ℕ)) (before behind : List (List ℕ)) (old new : List ℕ) → IsStatus n → (n ≡ 0 → Accepts left rest before behind old new) → (n ≡ 2 → ⊥) → (n ≡ 3 → ⊥)
+  refused-of : (text : List ℕ) → IsInput text left rest before behind → RefusedBy first n text
+  refused-of text same h fault bad =
+      by_status n (n ≡ 3) says.status
+      (λ zero.
+      let run = says.passed zero in
+      absurd (once.fails first first run.script run.written.h h fault run.written.passes (of-read text (λ (s : List ℕ). Fails first s h fault) same bad run.script run.read)))
+      says.command
+      (λ three. inl three)
+      (λ eight.
+      let run = says.misconfigured eight in
+      let fails = of-read text (λ (s : List ℕ). Fails first s h fault) same bad run.script run.read in
+      absurd (once.both run.script fails.before _ fails.config run.written.fault.rule run.written.fault.at fails.configured run.written.misconfigured))
+      (λ nine.
+      let run = says.worn nine in
+      absurd (once.either first run.script h run.written.h fault (of-read text (λ (s : List ℕ). Fails first s h fault) same bad run.script run.read) run.written.wears))
+
+  pub refused-always : OfAllInput (RefusedBy first n) left before behind
+  refused-always = of_all (RefusedBy first n) left rest before behind refused-of
+
+  worn-of : (text : List ℕ) → IsInput text left rest before behind → WornBy first n text
+  worn-of text same h bad =
+      by_status n (n ≡ 9) says.status
+      (λ zero.
+      let run = says.passed zero in
+      absurd (once.wears first run.script run.written.h h run.written.passes (of-read text (λ (s : List ℕ). Wears first s h) same bad run.script run.read)))
+      says.command
+      (λ three.
+      let run = says.refused three in
+      absurd (once.either first run.script run.written.h h run.written.fault run.written.fails (of-read text (λ (s : List ℕ). Wears first s h) same bad run.script run.read)))
+      (λ eight.
+      let run = says.misconfigured eight in
+      let wears = of-read text (λ (s : List ℕ). Wears first s h) same bad run.script run.read in
+      absurd (once.both run.script wears.before _ wears.config run.written.fault.rule run.written.fault.at wears.configured run.written.misconfigured))
+      (λ nine. inl nine)
+
+  pub worn-always : OfAllInput (WornBy first n) left before behind
+  worn-always = of_all (WornBy first n) left rest before behind worn-of
+
+  passed-of : (text : List ℕ) → IsInput text left rest before behind → PassedBy first n text
+  passed-of text same h passes =
+      by_status n (n ≡ 0) says.status
+      (λ zero. inl zero)
+      says.command
+      (λ three.
+      let run = says.refused three in
+      absurd (once.fails first first run.script h run.written.h run.written.fault (of-read text (λ (s : List ℕ). Passes first s h) same passes run.script run.read) run.written.fails))
+      (λ eight.
+      let run = says.misconfigured eight in
+      let goes = of-read text (λ (s : List ℕ). Passes first s h) same passes run.script run.read in
+      absurd (once.both run.script goes.before _ goes.config run.written.fault.rule run.written.fault.at goes.configured run.written.misconfigured))
+      (λ nine.
+      let run = says.worn nine in
+      absurd (once.wears first run.script h run.written.h (of-read text (λ (s : List ℕ). Passes first s h) same passes run.script run.read) run.written.wears))
+
+  pub passed-always : OfAllInput (PassedBy first n) left before behind
+  passed-always = of_all (PassedBy first n) left rest before behind passed-of
+
+rejected-of : NeverBoth → (n : ℕ) (left rest : Option (List ℕ)) (before behind : List (List ℕ)) (old new : List ℕ) → IsStatus n → (n ≡ 0 → Accepts left rest before behind old new) → (n ≡ 2 → ⊥) → (n ≡ 3 → ⊥) → (n ≡ 9 → ⊥)
     → (text : List ℕ) → IsInput text left rest before behind → RejectedBy n text
-rejected-of both n left rest before behind old new status accepted usage refused text same rule at bad =
+rejected-of both n left rest before behind old new status accepted usage refused worn text same rule at bad =
     by_status n (n ≡ 8) status
     (λ zero.
     let run = accepted zero in
@@ -85,10 +142,11 @@ rejected-of both n left rest before behind old new status accepted usage refused
     usage
     (λ three. absurd (refused three))
     (λ eight. inl eight)
+    (λ nine. absurd (worn nine))
 
-pub rejected-always : NeverBoth → (n : ℕ) (left rest : Option (List ℕ)) (before behind : List (List ℕ)) (old new : List ℕ) → IsStatus n → (n ≡ 0 → Accepts left rest before behind old new) → (n ≡ 2 → ⊥) → (n ≡ 3 → ⊥) → OfAllInput (RejectedBy n) left before behind
-rejected-always both n left rest before behind old new status accepted usage refused =
-    of_all (RejectedBy n) left rest before behind (rejected-of both n left rest before behind old new status accepted usage refused)
+pub rejected-always : NeverBoth → (n : ℕ) (left rest : Option (List ℕ)) (before behind : List (List ℕ)) (old new : List ℕ) → IsStatus n → (n ≡ 0 → Accepts left rest before behind old new) → (n ≡ 2 → ⊥) → (n ≡ 3 → ⊥) → (n ≡ 9 → ⊥) → OfAllInput (RejectedBy n) left before behind
+rejected-always both n left rest before behind old new status accepted usage refused worn =
+    of_all (RejectedBy n) left rest before behind (rejected-of both n left rest before behind old new status accepted usage refused worn)
 
 -- a whole input isn't too long
 told-short : (n : ℕ) (left rest : Option (List ℕ)) (before behind : List (List ℕ)) → IsUnread n ⊎ ReadsSome left rest before behind → IfSome left (λ bytes. longest_input < length bytes → IsUnread n)

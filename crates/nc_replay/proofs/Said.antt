@@ -1,133 +1,105 @@
--- What a line says by the rules is what the engine takes, and a used number is one that there was.
-use Rattle.std.proofs.Common.{◌≡◌, inl, inr, ℕ, ℤ, negsuc, ◌<◌, ◌≤◌, Bool, true, false, not, cond, ◌==◌, slice_index_or, List, [], ◌∷◌, length, map, refl, sym, ◌∙◌, ap, subst, arith, true≢false}
-use Rattle.std.specs.List.{slice_split, onto_first}
-use Rattle.nc_types.specs.Cursor.{CursorAt}
+-- What a line says by the rules is what the cluster takes, and a used number is one that was subscribed.
+use Rattle.std.proofs.Common.{◌≡◌, inl, inr, ℕ, Bool, true, false, cond, ◌==◌, ◌&&◌, ◌||◌, List, [], ◌∷◌, refl, sym, ◌∙◌, ap, subst, Option, Some, None, true≢false}
+use Rattle.std.specs.declared.result.Result.TheVariants.{Ok, Err}
 use Rattle.nc_types.specs.declared.start.Start.{Start}
 use Rattle.nc_types.specs.declared.start.Start.TheVariants.{Oldest, Newest, Given}
-use Rattle.nc_journal.specs.declared.event.Event.{Event}
-use Rattle.nc_journal.specs.History.{own}
-use Rattle.nc_journal.specs.Standing.{is_subscribed}
-use Rattle.nc_script.specs.declared.command.Command.{Command}
-use Rattle.nc_script.specs.declared.command.Command.TheVariants as commands
-use Rattle.nc_script.specs.declared.line.Line.{Line}
-use Rattle.nc_script.specs.declared.line.Line.TheVariants.{Blank, Clock, Reap, Post, Poll}
-use Rattle.nc_script.specs.Word.{Word, placed}
-use Rattle.std.specs.declared.result.Result.TheVariants.{Err}
+use Rattle.nc_script.specs.declared.line.Line.{Line as Said}
+use Rattle.nc_script.specs.declared.line.Line.TheVariants as said
 use Rattle.nc_script.specs.declared.fault.LineFault.{LineFault}
 use Rattle.nc_script.specs.declared.fault.LineFault.TheVariants.{Rule, NoMemory}
-use Rattle.nc_script.specs.Judge.{Judge, Judged, says, chosen}
-use Rattle.nc_script.specs.Part.{IsStart, names, distinct_names}
-use Rattle.nc_script.specs.Line.{line, full_line, command_line, is_blank}
-use Rattle.nc_script.specs.Script.{IsPoll}
-use Rattle.nc_replay.specs.LineEvents.{line_after, IsNew, start_id}
-use Rattle.nc_replay.specs.Run.{is_among, takes_new, new_line}
-use Rattle.nc_replay.proofs.Poll.{Starts}
-use Rattle.nc_replay.proofs.Step.{IsWithin}
+use Rattle.nc_script.specs.Judge.{Judge, Judged}
+use Rattle.nc_script.specs.Line.{line}
+use Rattle.nc_script.specs.Script.{IsPoll, HasNumberAt, Keeps, FitsNames}
+use Rattle.nc_spool.specs.Arrive.{FitsList}
+use Rattle.nc_world.specs.Lines.{Line}
+use Rattle.nc_world.specs.Reached.{IsStart}
+use Rattle.nc_cluster.specs.Line.{pure_line, CanMake}
+use Rattle.nc_cluster.specs.Comers.{broken_rule}
+use Rattle.nc_replay.specs.Lines.{is_used, IsNew, line_after}
 
-one-tag : (tags : List ℤ) → length tags ≡ 1 → slice_index_or tags 0 (negsuc 0) ∷ [] ≡ tags
-one-tag [] one = absurd (omega arith)
-one-tag (g ∷ []) one = refl
-one-tag (g ∷ (f ∷ tags)) one = absurd (omega arith)
+-- ---- what a line keeps
 
--- where a list of one channel starts
-starts-one : (c text : List ℕ) (begin : Start) → IsStart 1 text begin → Starts c begin (start_id begin)
-starts-one c text Oldest is = refl
-starts-one c text Newest is = absurd is
-starts-one c text (Given cursor) is = ap (λ (tags : List ℤ). let at : CursorAt = record { time = cursor.time; tags = tags } in at) (one-tag cursor.tags is.1)
+fits-list : (names : List (List ℕ)) (start : Start) → FitsNames names start → FitsList names start
+fits-list names Oldest fits = tt
+fits-list names Newest fits = absurd fits
+fits-list names (Given cursor) fits = fits
 
--- a list of one channel at most, but of some
-one-channel : (w k : ℕ) (text : List ℕ) (list : List (List ℕ)) (begin : Start) → 0 < length list → length list ≤ 1 → IsStart (length list) text begin → IsWithin (Poll w k list begin)
-one-channel w k text [] begin some few is = absurd (omega arith)
-one-channel w k text (c ∷ []) begin some few is = starts-one c text begin is
-one-channel w k text (c ∷ (d ∷ list)) begin some few is = absurd (omega arith)
+starts-so : (names : List (List ℕ)) (start : Start) → FitsNames names start → IsStart start
+starts-so names Oldest fits = tt
+starts-so names Newest fits = absurd fits
+starts-so names (Given cursor) fits = tt
 
-some-split : (test : ℕ → Bool) (text : List ℕ) → 0 < length (slice_split test text)
-some-split test [] = omega arith
-some-split test (b ∷ text) = by_test (test b) (slice_split test text)
-  where
-    by_test : (t : Bool) (rest : List (List ℕ)) → 0 < length (cond t ([] ∷ rest) (onto_first b rest))
-    by_test true rest = omega arith
-    by_test false [] = omega arith
-    by_test false (first ∷ rest) = omega arith
+pub can-make : (workers : ℕ) (l : Said) → Keeps workers l → CanMake workers l
+can-make workers said.Blank keeps = tt
+can-make workers (said.Clock w t) keeps = keeps
+can-make workers (said.Reap w) keeps = keeps
+can-make workers (said.Post w c body) keeps = keeps
+can-make workers (said.Poll w k names start) keeps =
+    (keeps.0, fits-list names start keeps.1.fits, record { distinct = keeps.1.distinct; named = keeps.1.some; starts = starts-so names start keeps.1.fits })
+can-make workers (said.Carry w to) keeps = keeps
+can-make workers (said.Take w from) keeps = keeps
+can-make workers (said.Settle n) keeps = tt
+can-make workers (said.Inform w c) keeps = keeps
 
-some-placed : (at : ℕ) (pieces : List (List ℕ)) → 0 < length pieces → 0 < length (map (λ w. w.bytes) (placed at pieces))
-some-placed at [] some = some
-some-placed at (piece ∷ pieces) some = omega arith
+-- ---- used numbers
 
-some-distinct : (word : Word) (cs list : List (List ℕ)) → 0 < length cs → (distinct_names word cs).Says list → 0 < length list
-some-distinct word [] list some said = absurd (omega arith)
-some-distinct word (c ∷ cs) list some said = subst (λ (l : List (List ℕ)). 0 < length l) (sym said.0) (omega arith)
+-- those that some test tells
+abbrev AreUsed : (ℕ → ℕ → Bool) → List Line → Type 0
+AreUsed was lines = (w k : ℕ) → was w k ≡ is_used w k lines
 
--- a poll has one channel
-poll-within : (w k : ℕ) (word begin-word : Word) (cs list : List (List ℕ)) (begin : Start)
-    → (names word).Says cs → (distinct_names word cs).Says list → IsStart (length list) begin-word.bytes begin → IsWithin (Poll w k list begin)
-poll-within w k word begin-word cs list begin named distinct is =
-    one-channel w k begin-word.bytes list begin
-    (some-distinct word cs list (subst (λ (l : List (List ℕ)). 0 < length l) (sym named.0) (some-placed word.at (slice_split (λ b. b == 44) word.bytes) (some-split (λ b. b == 44) word.bytes))) distinct)
-    distinct.1 is
+none-broken : (b : Bool) → cond {A = Option ℕ} b (Some 10) None ≡ None → b ≡ false
+none-broken true is = absurd (cc)
+none-broken false is = refl
 
--- what a line says by its rules is within the engine's limits
-pub within-limit : (text : List ℕ) (l : Line) → (line 1 text).Says l → IsWithin l
-within-limit text l said = by_blank (is_blank text) said.2
-  where
-    by_command : (c : Command) → (command_line 1 text c).Says l → IsWithin l
-    by_command commands.Clock said = rw said.2.2.2.2 said.2.2.1.1
-    by_command commands.Reap said = rw said.2.2.2 tt
-    by_command commands.Post said = rw said.2.2.2.2.2 tt
-    by_command commands.Poll said =
-        let kept = said.2.2.2 in
-        let listed = kept.2.1 in
-        let started = kept.2.2 in
-        rw started.2 (poll-within kept.0 said.2.2.0 said.0.third said.0.fourth listed.0 kept.2.0 started.0 listed.1 listed.2 started.1)
+some-broken : (b : Bool) (rule : ℕ) → cond {A = Option ℕ} b (Some 10) None ≡ Some rule → (b ≡ true) × (rule ≡ 10)
+some-broken true rule is = (refl, cc)
+some-broken false rule is = absurd (cc)
 
-    by_blank : (b : Bool) → (chosen b (says Blank) (full_line 1 text)).Says l → IsWithin l
-    by_blank true said = rw said tt
-    by_blank false said = by_command said.0 said.2
+pub is-new : (was : ℕ → ℕ → Bool) (lines : List Line) (l : Said) → AreUsed was lines → broken_rule was (pure_line l) ≡ None → IsNew lines l
+is-new was lines said.Blank are none = tt
+is-new was lines (said.Clock w t) are none = tt
+is-new was lines (said.Reap w) are none = tt
+is-new was lines (said.Post w c body) are none = tt
+is-new was lines (said.Poll w k names start) are none = sym (are w k) ∙ none-broken (was w k) none
+is-new was lines (said.Carry w to) are none = tt
+is-new was lines (said.Take w from) are none = tt
+is-new was lines (said.Settle n) are none = tt
+is-new was lines (said.Inform w c) are none = tt
 
-not-false : (b : Bool) → not b ≡ true → b ≡ false
-not-false true h = absurd (true≢false (sym h))
-not-false false h = refl
+no-rule : (rule : ℕ) → None ≡ Some rule → ⊥
+no-rule rule is = absurd (cc)
 
-not-true : (b : Bool) → not b ≡ false → b ≡ true
-not-true true h = refl
-not-true false h = absurd (true≢false h)
+-- a line that breaks it is a poll of a used number
+pub record IsOld (workers : ℕ) (text : List ℕ) (lines : List Line) (l : Said) (rule : ℕ) : Type 0 where
+  pub ten : rule ≡ 10
+  pub old : IsNew lines l → ⊥
 
--- the numbers that were used are those of the subscribers that there were
-abbrev pub AreUsed : List ℕ → List Event → Type 0
-AreUsed used h = (k : ℕ) → is_among used k ≡ is_subscribed k (own 0 h)
+pub is-old : (was : ℕ → ℕ → Bool) (workers : ℕ) (text : List ℕ) (lines : List Line) (l : Said) (rule : ℕ) → AreUsed was lines → broken_rule was (pure_line l) ≡ Some rule → IsOld workers text lines l rule
+is-old was workers text lines said.Blank rule are some = absurd (no-rule rule some)
+is-old was workers text lines (said.Clock w t) rule are some = absurd (no-rule rule some)
+is-old was workers text lines (said.Reap w) rule are some = absurd (no-rule rule some)
+is-old was workers text lines (said.Post w c body) rule are some = absurd (no-rule rule some)
+is-old was workers text lines (said.Poll w k names start) rule are some =
+    let broken = some-broken (was w k) rule some in
+    record { ten = broken.1; old = λ new. true≢false (sym broken.0 ∙ are w k ∙ new) }
+is-old was workers text lines (said.Carry w to) rule are some = absurd (no-rule rule some)
+is-old was workers text lines (said.Take w from) rule are some = absurd (no-rule rule some)
+is-old was workers text lines (said.Settle n) rule are some = absurd (no-rule rule some)
+is-old was workers text lines (said.Inform w c) rule are some = absurd (no-rule rule some)
 
-is-new : (used : List ℕ) (h : List Event) (l : Line) → AreUsed used h → takes_new used l ≡ true → IsNew h l
-is-new used h Blank are new = tt
-is-new used h (Clock w t) are new = tt
-is-new used h (Reap w) are new = tt
-is-new used h (Post w c body) are new = tt
-is-new used h (Poll w k list begin) are new = sym (are k) ∙ not-false (is_among used k) new
+-- it is read as a poll, and the rule is the tenth
+pub is-poll : (was : ℕ → ℕ → Bool) (workers : ℕ) (text : List ℕ) (l : Said) (rule : ℕ) → (line workers text).Says l → broken_rule was (pure_line l) ≡ Some rule → IsPoll text × (rule ≡ 10)
+is-poll was workers text said.Blank rule says some = absurd (no-rule rule some)
+is-poll was workers text (said.Clock w t) rule says some = absurd (no-rule rule some)
+is-poll was workers text (said.Reap w) rule says some = absurd (no-rule rule some)
+is-poll was workers text (said.Post w c body) rule says some = absurd (no-rule rule some)
+is-poll was workers text (said.Poll w k names start) rule says some = (record { workers = workers; w = w; k = k; names = names; start = start; says = says }, (some-broken (was w k) rule some).1)
+is-poll was workers text (said.Carry w to) rule says some = absurd (no-rule rule some)
+is-poll was workers text (said.Take w from) rule says some = absurd (no-rule rule some)
+is-poll was workers text (said.Settle n) rule says some = absurd (no-rule rule some)
+is-poll was workers text (said.Inform w c) rule says some = absurd (no-rule rule some)
 
-is-old : (used : List ℕ) (h : List Event) (l : Line) → AreUsed used h → takes_new used l ≡ false → IsNew h l → ⊥
-is-old used h Blank are old = absurd (true≢false old)
-is-old used h (Clock w t) are old = absurd (true≢false old)
-is-old used h (Reap w) are old = absurd (true≢false old)
-is-old used h (Post w c body) are old = absurd (true≢false old)
-is-old used h (Poll w k list begin) are old = λ new. true≢false (sym (not-true (is_among used k) old) ∙ are k ∙ new)
-
--- what a line says after a history
-pub record NewAfter (h : List Event) (text : List ℕ) (l : Line) : Type 0 where
-  pub says : (line_after h text).Says l
-  pub within : IsWithin l
-  pub fresh : IsNew h l
-
-pub new-after : (used : List ℕ) (h : List Event) (text : List ℕ) (l : Line) → AreUsed used h → (new_line used text).Says l → NewAfter h text l
-new-after used h text l are said =
-    let new = is-new used h said.0 are said.2.1 in
-    record {
-      says = (said.0, said.1, (said.2.0, new));
-      within = rw said.2.0 (within-limit text said.0 said.1);
-      fresh = rw said.2.0 new;
-    }
-
-pub breaks-after : (used : List ℕ) (h : List Event) (text : List ℕ) (rule at : ℕ) → AreUsed used h → (new_line used text).Breaks rule at → (line_after h text).Breaks rule at
-breaks-after used h text rule at are (inl breaks) = inl breaks
-breaks-after used h text rule at are (inr breaks) = inr (breaks.0, breaks.1, (breaks.2.0, is-old used h breaks.0 are breaks.2.1, breaks.2.2))
+-- ---- faults
 
 -- a fault that names no rule is want of memory, and one that names a rule breaks it
 pub by-rule : {X : Type 0} (judge : Judge X) (fault : LineFault) → ((rule at : ℕ) → fault ≡ Rule rule at → judge.Breaks rule at) → Judged judge (Err fault)
@@ -138,13 +110,11 @@ pub breaks-rule : {X : Type 0} (judge : Judge X) (fault : LineFault) (rule at : 
 breaks-rule judge fault rule at is judged = rw is at judged
 
 -- a line that the rules on lines refuse is refused
-pub not-read : (used text : List ℕ) (fault : LineFault) → Judged (line 1 text) (Err fault) → Judged (new_line used text) (Err fault)
-not-read used text fault judged = by-rule (new_line used text) fault (λ rule at is. inl (breaks-rule (line 1 text) fault rule at is judged))
+pub not-read : (workers : ℕ) (lines : List Line) (text : List ℕ) (fault : LineFault) → Judged (line workers text) (Err fault) → Judged (line_after workers lines text) (Err fault)
+not-read workers lines text fault judged = by-rule (line_after workers lines text) fault (λ rule at is. inl (breaks-rule (line workers text) fault rule at is judged))
 
--- a line that takes a used number is a poll
-pub is-poll : (used text : List ℕ) (l : Line) → (line 1 text).Says l → takes_new used l ≡ false → IsPoll text
-is-poll used text Blank said old = absurd (true≢false old)
-is-poll used text (Clock w t) said old = absurd (true≢false old)
-is-poll used text (Reap w) said old = absurd (true≢false old)
-is-poll used text (Post w c body) said old = absurd (true≢false old)
-is-poll used text (Poll w k list begin) said old = record { workers = 1; w = w; k = k; names = list; start = begin; says = said }
+-- and one that breaks the tenth
+pub not-new : (was : ℕ → ℕ → Bool) (workers : ℕ) (lines : List Line) (text : List ℕ) (l : Said) (rule at : ℕ) → AreUsed was lines → (line workers text).Says l → broken_rule was (pure_line l) ≡ Some rule → HasNumberAt text at → (line_after workers lines text).Breaks rule at
+not-new was workers lines text l rule at are says some place =
+    let old = is-old was workers text lines l rule are some in
+    inr (l, says, (old.ten, old.old, place))

@@ -4,8 +4,8 @@ use Rattle.nc_outside.specs.Fault.{HasRisen}
 use Rattle.nc_outside.specs.Pieces.{Gives, GivesAll}
 use Rattle.nc_replay.specs.declared.input.ReadFault.{ReadFault}
 use Rattle.nc_replay.specs.declared.input.ReadFault.TheVariants.{Failed, TooLong, NoMemory}
-use Rattle.nc_replay.specs.declared.replay.Stop.{Stop}
-use Rattle.nc_replay.specs.declared.replay.Stop.TheVariants.{Sink, NoMemory as NoMemoryStop}
+use Rattle.nc_replay.specs.declared.making.Stop.{Stop}
+use Rattle.nc_replay.specs.declared.making.Stop.TheVariants.{Sink, NoMemory as NoMemoryStop}
 
 -- the most bytes of an input
 abbrev pub longest_input : ℕ

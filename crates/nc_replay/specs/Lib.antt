@@ -1,8 +1,8 @@
 pub mod Script
 pub mod Plan
-pub mod LineEvents
-pub mod Machine
+pub mod Lines
 pub mod Input
 pub mod Run
+pub mod Turns
 pub mod Top
 pub mod Sure

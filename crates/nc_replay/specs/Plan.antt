@@ -1,7 +1,6 @@
 -- What is found of a script before its lines are made.
 use Rattle.std.specs.Prelude.{◌≡◌, ℕ, ◌+◌, List, length}
 use Rattle.nc_types.specs.Config.{ConfigAt}
-use Rattle.nc_types.specs.Settings.{SettingsAt}
 use Rattle.nc_conf.specs.declared.read.ConfFault.{ConfFault}
 use Rattle.nc_conf.specs.declared.read.ConfFault.TheVariants as faults
 use Rattle.nc_replay.specs.declared.plan.PlanFault.{PlanFault}
@@ -15,12 +14,10 @@ pub record HasParts (script config lines : List ℕ) (number : ℕ) : Type 0 whe
   pub text : config ≡ text_of_lines before
   pub counted : number ≡ length before + 1
 
--- a script is configured, and its lines are made with these settings
-pub record IsPlan (script : List ℕ) (base : SettingsAt) (lines : List ℕ) (number : ℕ) : Type 0 where
+-- a script is configured so, and these are the lines that are made
+pub record IsPlan (script : List ℕ) (config : ConfigAt) (lines : List ℕ) (number : ℕ) : Type 0 where
   pub before : List (List ℕ)
-  pub config : ConfigAt
   pub configured : IsConfigured script before (lines_of lines) config
-  pub settings : base ≡ config.base
   pub counted : number ≡ length before + 1
 
 abbrev pub plan_fault : ConfFault → PlanFault

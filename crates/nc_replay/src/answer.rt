@@ -5,11 +5,11 @@ ghost use Rattle.std.specs.Prelude.{◌≡◌, ◌≤◌, ◌++◌, IfOk, IfErr,
 ghost use Rattle.std.specs.Fmt.{decimal};
 ghost use Rattle.nc_replay.specs.Input.{Adds, AddsPrefix, HasStopped, IsCalm};
 ghost use Rattle.nc_replay.specs.Top.{fault_text, misconfigured_text, accepted_text};
-ghost use Rattle.nc_replay.specs.declared.replay.Stop.TheVariants.{NoMemory as NoMemoryStop};
+ghost use Rattle.nc_replay.specs.declared.making.Stop.TheVariants.{NoMemory as NoMemoryStop};
 
 use crate::fault::{Fault, Misconfigured};
 use crate::input::write_all;
-use crate::replay::Stop;
+use crate::making::Stop;
 use nc_outside::Sink;
 use nc_types::text::put_decimal;
 use nc_types::{Config, NoMemory};

@@ -5,12 +5,12 @@ ghost use Rattle.std.specs.Prelude.{◌≡◌, ◌≢◌, ◌≤◌, ◌⊎◌, 
 ghost use Rattle.nc_outside.specs.Fault.{HasRisen};
 ghost use Rattle.nc_replay.specs.Input.{longest_input, ReadsUpTo, ReadsTooMuch, ReadsSome, HasStopped, IsCalm};
 ghost use Rattle.nc_replay.specs.Top.{IsStatus, IsUnread, JudgesAs, CutsOffVerdict, Accepts, Rejects, CutsOffCheck};
-ghost use Rattle.nc_replay.specs.declared.replay.Stop.TheVariants.{Sink as SinkStop, NoMemory as NoMemoryStop};
+ghost use Rattle.nc_replay.specs.declared.making.Stop.TheVariants.{Sink as SinkStop, NoMemory as NoMemoryStop};
 
 use crate::answer::{write_accepted, write_misconfigured};
 use crate::fault::Misconfigured;
 use crate::input::{ReadFault, read_all};
-use crate::replay::Stop;
+use crate::making::Stop;
 use nc_conf::{ConfFault, read_config};
 use nc_outside::{Sink, Source};
 use std::alloc::Global;
@@ -48,7 +48,7 @@ fn judge<K: Sink>(alloc: Global, text: &[u8], out: &mut K) -> Result<Verdict, St
 /// ReadsSoFar a configuration from the input and judges it, and gives the status.
 pub fn check<S: Source, K: Sink>(alloc: Global, input: &mut S, out: &mut K) -> u8
     ensures status { IsStatus result }
-    ensures command { (result ≢ 2) × (result ≢ 3) }
+    ensures command { (result ≢ 2) × (result ≢ 3) × (result ≢ 9) }
     ensures accepted { result ≡ 0
         → Accepts (S.left input.old) (S.left input.new) (S.given input.old) (S.given input.new)
         (K.taken out.old) (K.taken out.new) }

@@ -7,16 +7,18 @@ ghost use Rattle.nc_outside.specs.Fault.{HasRisen};
 ghost use Rattle.nc_cli.specs.Words.{IsCommand, usage_text};
 ghost use Rattle.nc_cli.specs.declared.Command.TheVariants.{Replay, Check, Usage};
 ghost use Rattle.nc_replay.specs.Input.{longest_input, ReadsUpTo, ReadsTooMuch, ReadsSome, HasStopped, IsCalm, Adds, AddsPrefix};
-ghost use Rattle.nc_replay.specs.Top.{IsReplay, IsCheck, Replays, Refuses, Misconfigures, Accepts, Rejects, CutsOff, CutsOffCheck};
-ghost use Rattle.nc_replay.specs.Top.{EndsAs, CutsOffSome, IsStatus, IsUnread, OfAllInput, RefusedBy, MisconfiguredBy, RejectedBy, MustBeShort};
+ghost use Rattle.nc_replay.specs.Top.{IsReplay, IsCheck, Replays, Refuses, WearsOut, Misconfigures, Accepts, Rejects, CutsOff, CutsOffCheck};
+ghost use Rattle.nc_replay.specs.Top.{EndsAs, CutsOffSome, IsStatus, IsUnread, OfAllInput, PassedBy, RefusedBy, WornBy, MisconfiguredBy, RejectedBy, MustBeShort};
 
 use crate::answer::{write_fault, write_misconfigured};
 use crate::check::check;
 use crate::input::{ReadFault, read_all, write_all};
 use crate::laws::{one_configuration, one_end};
+use crate::making::{Ending, Stop, replay_lines};
 use crate::plan::{PlanFault, plan_of};
-use crate::replay::{Stop, replay_lines};
 use nc_cli::{Command, read_words, usage};
+use nc_crew::Crewman;
+use nc_floor::Hand;
 use nc_outside::{Sink, Source};
 use std::alloc::Global;
 
@@ -29,13 +31,20 @@ enum End {
     Refused,
     /// The configuration was refused.
     Misconfigured,
+    /// A line would have called on a worn worker.
+    WornOut,
 }
 
-/// Replays a script and writes its fault, if it has one.
-fn replay_text<K: Sink>(alloc: Global, script: &[u8], out: &mut K) -> Result<End, Stop>
+/// Replays a script and writes its fault, if it has one. The numbers that workers draw begin with `first`.
+fn replay_text<W: Hand, K: Sink>(
+    alloc: Global,
+    first: u64,
+    script: &[u8],
+    out: &mut K,
+) -> Result<End, Stop>
     requires { length script.now ≤ longest_input }
-    ensures end { IfOk result (λ end. EndsAs end script.now (K.taken out.old) (K.taken out.new)) }
-    ensures some { OnErr result (CutsOffSome script.now (K.taken out.old) (K.taken out.new)) }
+    ensures end { IfOk result (λ end. EndsAs end first script.now (K.taken out.old) (K.taken out.new)) }
+    ensures some { OnErr result (CutsOffSome first script.now (K.taken out.old) (K.taken out.new)) }
     ensures cause { IfErr result (HasStopped (K.faults out.old) (K.faults out.new) (K.refusals out.old) (K.refusals out.new)) }
     ensures calm { OnOk result (IsCalm (K.faults out.old) (K.faults out.new) (K.refusals out.old) (K.refusals out.new)) }
 {
@@ -47,22 +56,31 @@ fn replay_text<K: Sink>(alloc: Global, script: &[u8], out: &mut K) -> Result<End
         }
         Err(PlanFault::NoMemory) => return Err(Stop::NoMemory),
     };
-    let Some(fault) = replay_lines(alloc, plan.base, plan.before, plan.lines, out)? else {
-        return Ok(End::Passed);
-    };
-    write_fault(alloc, fault, out)?;
-    Ok(End::Refused)
+    match replay_lines::<W, K>(alloc, plan.config, first, plan.before, plan.lines, out)? {
+        Ending::All => Ok(End::Passed),
+        Ending::Worn => Ok(End::WornOut),
+        Ending::Faulty(fault) => {
+            write_fault(alloc, fault, out)?;
+            Ok(End::Refused)
+        }
+    }
 }
 
-/// ReadsSoFar a script from the input and replays it.
-fn replay<S: Source, K: Sink>(alloc: Global, input: &mut S, out: &mut K) -> u8
+/// Reads a script from the input and replays it, and gives the exit status (docs/JOURNAL.md).
+///
+/// The numbers that workers draw begin with `first`, and those of a worker end at 2^63: then the status is 9.
+/// The other statuses are those of [`top`].
+pub fn replay<S: Source, K: Sink>(alloc: Global, first: u64, input: &mut S, out: &mut K) -> u8
     ensures status { IsStatus result }
     ensures command { result ≢ 2 }
     ensures passed { result ≡ 0
-        → Replays (S.left input.old) (S.left input.new) (S.given input.old) (S.given input.new)
+        → Replays first (S.left input.old) (S.left input.new) (S.given input.old) (S.given input.new)
         (K.taken out.old) (K.taken out.new) }
     ensures refused { result ≡ 3
-        → Refuses (S.left input.old) (S.left input.new) (S.given input.old) (S.given input.new)
+        → Refuses first (S.left input.old) (S.left input.new) (S.given input.old) (S.given input.new)
+        (K.taken out.old) (K.taken out.new) }
+    ensures worn { result ≡ 9
+        → WearsOut first (S.left input.old) (S.left input.new) (S.given input.old) (S.given input.new)
         (K.taken out.old) (K.taken out.new) }
     ensures misconfigured { result ≡ 8
         → Misconfigures (S.left input.old) (S.left input.new) (S.given input.old) (S.given input.new)
@@ -75,10 +93,10 @@ fn replay<S: Source, K: Sink>(alloc: Global, input: &mut S, out: &mut K) -> u8
         → HasRisen (K.faults out.old) (K.faults out.new) ⊎ HasRisen (K.refusals out.old) (K.refusals out.new) }
     ensures unwritten_always { result ≢ 5 → IsCalm (K.faults out.old) (K.faults out.new) (K.refusals out.old) (K.refusals out.new) }
     ensures cut_off { result ≡ 5
-        → CutsOff (S.left input.old) (S.left input.new) (S.given input.old) (S.given input.new)
+        → CutsOff first (S.left input.old) (S.left input.new) (S.given input.old) (S.given input.new)
         (K.taken out.old) (K.taken out.new) }
     ensures out_of_memory { result ≡ 6 → (K.taken out.new ≡ K.taken out.old) ⊎
-        CutsOff (S.left input.old) (S.left input.new) (S.given input.old) (S.given input.new)
+        CutsOff first (S.left input.old) (S.left input.new) (S.given input.old) (S.given input.new)
         (K.taken out.old) (K.taken out.new) }
     ensures too_long { result ≡ 7 → ReadsTooMuch
         (S.left input.old) (S.left input.new) (S.given input.old) (S.given input.new) }
@@ -93,10 +111,11 @@ fn replay<S: Source, K: Sink>(alloc: Global, input: &mut S, out: &mut K) -> u8
         Err(ReadFault::TooLong) => return 7,
         Err(ReadFault::NoMemory) => return 6,
     };
-    match replay_text(alloc, &text, out) {
+    match replay_text::<Crewman, K>(alloc, first, &text, out) {
         Ok(End::Passed) => 0,
         Ok(End::Refused) => 3,
         Ok(End::Misconfigured) => 8,
+        Ok(End::WornOut) => 9,
         Err(Stop::Sink) => 5,
         Err(Stop::NoMemory) => 6,
     }
@@ -106,7 +125,7 @@ fn replay<S: Source, K: Sink>(alloc: Global, input: &mut S, out: &mut K) -> u8
 fn run<S: Source, K: Sink>(alloc: Global, command: Command, input: &mut S, out: &mut K) -> u8
     ensures status { IsStatus result }
     ensures passed { command ≡ Replay → result ≡ 0
-        → Replays (S.left input.old) (S.left input.new) (S.given input.old) (S.given input.new)
+        → Replays 0 (S.left input.old) (S.left input.new) (S.given input.old) (S.given input.new)
         (K.taken out.old) (K.taken out.new) }
     ensures accepted { command ≡ Check → result ≡ 0
         → Accepts (S.left input.old) (S.left input.new) (S.given input.old) (S.given input.new)
@@ -115,7 +134,10 @@ fn run<S: Source, K: Sink>(alloc: Global, command: Command, input: &mut S, out: 
     ensures usage_always { command ≡ Usage → (result ≡ 2) ⊎ (result ≡ 5) }
     ensures untouched { command ≡ Usage → input.new ≡ input.old }
     ensures refused { result ≡ 3 → (command ≡ Replay) ×
-        Refuses (S.left input.old) (S.left input.new) (S.given input.old) (S.given input.new)
+        Refuses 0 (S.left input.old) (S.left input.new) (S.given input.old) (S.given input.new)
+        (K.taken out.old) (K.taken out.new) }
+    ensures worn { result ≡ 9 → (command ≡ Replay) ×
+        WearsOut 0 (S.left input.old) (S.left input.new) (S.given input.old) (S.given input.new)
         (K.taken out.old) (K.taken out.new) }
     ensures misconfigured { command ≡ Replay → result ≡ 8
         → Misconfigures (S.left input.old) (S.left input.new) (S.given input.old) (S.given input.new)
@@ -131,14 +153,14 @@ fn run<S: Source, K: Sink>(alloc: Global, command: Command, input: &mut S, out: 
         → HasRisen (K.faults out.old) (K.faults out.new) ⊎ HasRisen (K.refusals out.old) (K.refusals out.new) }
     ensures unwritten_always { result ≢ 5 → IsCalm (K.faults out.old) (K.faults out.new) (K.refusals out.old) (K.refusals out.new) }
     ensures cut_off { command ≡ Replay → result ≡ 5
-        → CutsOff (S.left input.old) (S.left input.new) (S.given input.old) (S.given input.new)
+        → CutsOff 0 (S.left input.old) (S.left input.new) (S.given input.old) (S.given input.new)
         (K.taken out.old) (K.taken out.new) }
     ensures check_cut_off { command ≡ Check → result ≡ 5
         → CutsOffCheck (S.left input.old) (S.left input.new) (S.given input.old) (S.given input.new)
         (K.taken out.old) (K.taken out.new) }
     ensures usage_cut_off { command ≡ Usage → result ≡ 5 → AddsPrefix usage_text (K.taken out.old) (K.taken out.new) }
     ensures out_of_memory { result ≡ 6 → (K.taken out.new ≡ K.taken out.old) ⊎ ((command ≡ Replay) ×
-        CutsOff (S.left input.old) (S.left input.new) (S.given input.old) (S.given input.new)
+        CutsOff 0 (S.left input.old) (S.left input.new) (S.given input.old) (S.given input.new)
         (K.taken out.old) (K.taken out.new)) }
     ensures too_long { result ≡ 7 → ReadsTooMuch
         (S.left input.old) (S.left input.new) (S.given input.old) (S.given input.new) }
@@ -150,7 +172,7 @@ fn run<S: Source, K: Sink>(alloc: Global, command: Command, input: &mut S, out: 
     ensures silent { (result ≡ 4) ⊎ (result ≡ 7) → K.taken out.new ≡ K.taken out.old }
 {
     match command {
-        Command::Replay => replay(alloc, input, out),
+        Command::Replay => replay(alloc, 0, input, out),
         Command::Check => check(alloc, input, out),
         Command::Usage => match write_all(out, usage()) {
             Ok(()) => 2,
@@ -167,14 +189,17 @@ fn run<S: Source, K: Sink>(alloc: Global, command: Command, input: &mut S, out: 
 /// - 2: the words are no command, and the usage was written;
 /// - 3: a line breaks a rule, and `fault line=L rule=R at=P` stands behind the journal of those before it;
 /// - 4: the source failed; 5: the sink failed or took nothing; 6: there was no memory; 7: the input is longer;
-/// - 8: the configuration is refused, and `config rule=R at=P` was written.
+/// - 8: the configuration is refused, and `config rule=R at=P` was written;
+/// - 9: a line would call on a worker that has drawn half of its numbers, and the journal of what was made before was written.
 pub fn top<S: Source, K: Sink>(alloc: Global, words: &[String], input: &mut S, out: &mut K) -> u8
     ensures status { IsStatus result }
 
     // 0 comes only where all of the input was read, and every line of it was made or it is accepted as a configuration.
     ensures passed { IsReplay (map string_bytes words.now) → result ≡ 0
-        → Replays (S.left input.old) (S.left input.new) (S.given input.old) (S.given input.new)
+        → Replays 0 (S.left input.old) (S.left input.new) (S.given input.old) (S.given input.new)
         (K.taken out.old) (K.taken out.new) }
+    ensures passed_always { IsReplay (map string_bytes words.now)
+        → OfAllInput (PassedBy 0 result) (S.left input.old) (S.given input.old) (S.given input.new) }
     ensures accepted { IsCheck (map string_bytes words.now) → result ≡ 0
         → Accepts (S.left input.old) (S.left input.new) (S.given input.old) (S.given input.new)
         (K.taken out.old) (K.taken out.new) }
@@ -186,10 +211,17 @@ pub fn top<S: Source, K: Sink>(alloc: Global, words: &[String], input: &mut S, o
 
     // 3 comes exactly at the first line of a script that breaks a rule, but where the work stopped.
     ensures refused { result ≡ 3 → IsReplay (map string_bytes words.now) ×
-        Refuses (S.left input.old) (S.left input.new) (S.given input.old) (S.given input.new)
+        Refuses 0 (S.left input.old) (S.left input.new) (S.given input.old) (S.given input.new)
         (K.taken out.old) (K.taken out.new) }
     ensures refused_always { IsReplay (map string_bytes words.now)
-        → OfAllInput (RefusedBy result) (S.left input.old) (S.given input.old) (S.given input.new) }
+        → OfAllInput (RefusedBy 0 result) (S.left input.old) (S.given input.old) (S.given input.new) }
+
+    // 9 comes exactly at the first line that would call on a worn worker, but where the work stopped.
+    ensures worn { result ≡ 9 → IsReplay (map string_bytes words.now) ×
+        WearsOut 0 (S.left input.old) (S.left input.new) (S.given input.old) (S.given input.new)
+        (K.taken out.old) (K.taken out.new) }
+    ensures worn_always { IsReplay (map string_bytes words.now)
+        → OfAllInput (WornBy 0 result) (S.left input.old) (S.given input.old) (S.given input.new) }
 
     // 8 comes exactly where the configuration is refused, before any line is made, but where the work stopped.
     ensures misconfigured { IsReplay (map string_bytes words.now) → result ≡ 8
@@ -214,7 +246,7 @@ pub fn top<S: Source, K: Sink>(alloc: Global, words: &[String], input: &mut S, o
         → HasRisen (K.faults out.old) (K.faults out.new) ⊎ HasRisen (K.refusals out.old) (K.refusals out.new) }
     ensures unwritten_always { result ≢ 5 → IsCalm (K.faults out.old) (K.faults out.new) (K.refusals out.old) (K.refusals out.new) }
     ensures cut_off { IsReplay (map string_bytes words.now) → result ≡ 5
-        → CutsOff (S.left input.old) (S.left input.new) (S.given input.old) (S.given input.new)
+        → CutsOff 0 (S.left input.old) (S.left input.new) (S.given input.old) (S.given input.new)
         (K.taken out.old) (K.taken out.new) }
     ensures check_cut_off { IsCheck (map string_bytes words.now) → result ≡ 5
         → CutsOffCheck (S.left input.old) (S.left input.new) (S.given input.old) (S.given input.new)
@@ -224,7 +256,7 @@ pub fn top<S: Source, K: Sink>(alloc: Global, words: &[String], input: &mut S, o
 
     // 6 leaves nothing, or a prefix of the text of a lawful journal.
     ensures out_of_memory { result ≡ 6 → (K.taken out.new ≡ K.taken out.old) ⊎ (IsReplay (map string_bytes words.now) ×
-        CutsOff (S.left input.old) (S.left input.new) (S.given input.old) (S.given input.new)
+        CutsOff 0 (S.left input.old) (S.left input.new) (S.given input.old) (S.given input.new)
         (K.taken out.old) (K.taken out.new)) }
 
     // 7 comes exactly where the input is longer than 67,108,864 bytes, but where reading it failed; one byte more was read.
@@ -243,7 +275,7 @@ pub fn top<S: Source, K: Sink>(alloc: Global, words: &[String], input: &mut S, o
     // After 4 and 7 nothing was written.
     ensures silent { (result ≡ 4) ⊎ (result ≡ 7) → K.taken out.new ≡ K.taken out.old }
 {
-    // no script is both configured and refused, and no line both passes and breaks a rule, so 3 and 8 come always
+    // no script is both configured and refused, and none ends in two ways, so 0, 3, 8 and 9 come always
     one_configuration();
     one_end();
     run(alloc, read_words(words), input, out)

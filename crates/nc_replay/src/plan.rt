@@ -9,14 +9,14 @@ ghost use Rattle.nc_replay.specs.declared.plan.PlanFault.TheVariants.{NoMemory a
 use crate::fault::Misconfigured;
 use crate::script::parts_of;
 use nc_conf::{ConfFault, read_config};
-use nc_types::Settings;
+use nc_types::Config;
 use std::alloc::Global;
 
 /// What the lines of a script are made with.
-#[derive(Clone, Copy)]
+#[derive(Drop)]
 pub struct Plan<'t> {
-    /// The settings of what is at no location.
-    pub base: Settings,
+    /// The configuration: how many workers and slots there are, and the settings of what is at no location.
+    pub config: Config,
     /// The lines that are made.
     pub lines: &'t [u8],
     /// How many lines of the script stand before those.
@@ -50,7 +50,7 @@ impl From<ConfFault> for PlanFault {
 /// A script without the line `---` breaks the rule on the end of the text, at its length.
 pub fn plan_of(alloc: Global, script: &[u8]) -> Result<Plan<'_>, PlanFault>
     requires { length script.now ≤ longest_input }
-    ensures plan { IfOk result (λ plan. IsPlan script.now plan.base plan.lines.now plan.before) }
+    ensures plan { IfOk result (λ plan. IsPlan script.now plan.config plan.lines.now plan.before) }
     ensures within { IfOk result (λ plan. length plan.lines.now ≤ longest_input) }
     ensures few { IfOk result (λ plan. plan.before ≤ longest_input) }
     ensures fault { IfErr result (IsPlanFault script.now) }
@@ -63,7 +63,7 @@ pub fn plan_of(alloc: Global, script: &[u8]) -> Result<Plan<'_>, PlanFault>
     };
     let config = read_config(alloc, parts.config)?;
     Ok(Plan {
-        base: config.base,
+        config,
         lines: parts.lines,
         before: parts.before,
     })

@@ -4,3 +4,4 @@ mod Number
 pub mod Sure
 mod Parts
 mod Lines
+mod Fits

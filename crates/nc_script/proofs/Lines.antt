@@ -1,37 +1,42 @@
 -- A line says one thing, or breaks one rule at one place.
-use Rattle.std.proofs.Common.{◌≡◌, ℕ, List, [], ◌∷◌, length, get_or, sym, ap, ◌∙◌, refl, arith}
+use Rattle.std.proofs.Common.{◌≡◌, ℕ, ◌+◌, ◌*◌, ◌==◌, if◌then◌else◌, List, [], ◌∷◌, length, get_or, sym, ap, ◌∙◌, refl}
 use Rattle.nc_script.specs.declared.command.Command.{Command}
-use Rattle.nc_script.specs.declared.command.Command.TheVariants.{Clock, Reap, Post, Poll}
+use Rattle.nc_script.specs.declared.command.Command.TheVariants.{Clock, Reap, Post, Poll, Carry, Take, Settle, Info}
 use Rattle.nc_types.specs.Unquote.{OneMeaning, OnePlace}
 use Rattle.nc_script.specs.Word.{Word}
 use Rattle.nc_script.specs.Judge.{IsSure}
 use Rattle.nc_script.specs.Part.{greatest_number}
-use Rattle.nc_script.specs.Line.{command_word, command, short_enough, longest_line, one_word, two_words, four_words, two_words_and_text, Four, Quoting, clock_line, reap_line, post_line, poll_line, command_line, full_line, is_blank}
+use Rattle.nc_script.specs.Line.{command_word, command, short_enough, longest_line, one_word, two_words, four_words, two_words_and_text, Four, Quoting, clock_line, reap_line, post_line, poll_line, two_workers, carry_line, take_line, settle_line, info_line, command_line, full_line, is_blank}
 use Rattle.nc_script.specs.Script.{LinesAreSure}
 use Rattle.nc_script.proofs.Sure.{says_sure, must_sure, next_sure, chosen_sure}
 use Rattle.nc_script.proofs.Parts.{number_sure, worker_sure, name_sure, body_sure, list_sure, start_sure}
 
--- the place and the byte by which two commands differ
-differ : (c d : Command) (place : ℕ) → command_word c ≡ command_word d → get_or (command_word c) place 0 ≡ get_or (command_word d) place 0
-differ c d place h = ap (λ (word : List ℕ). get_or word place 0) h
+-- the first and the third byte of a command's word tell the command
+abbrev told_by : ℕ → Command
+told_by key =
+    if key == 99111 then Clock else
+    (if key == 114097 then Reap else
+    (if key == 112115 then Post else
+    (if key == 112108 then Poll else
+    (if key == 99114 then Carry else
+    (if key == 116107 then Take else
+    (if key == 115116 then Settle else Info))))))
+
+abbrev told : List ℕ → Command
+told word = told_by (get_or word 0 0 * 1000 + get_or word 2 0)
+
+told_is : (c : Command) → told (command_word c) ≡ c
+told_is Clock = refl
+told_is Reap = refl
+told_is Post = refl
+told_is Poll = refl
+told_is Carry = refl
+told_is Take = refl
+told_is Settle = refl
+told_is Info = refl
 
 same_command : (c d : Command) → command_word c ≡ command_word d → c ≡ d
-same_command Clock Clock h = refl
-same_command Clock Reap h = let e : ◌≡◌ {A = ℕ} 99 114 = differ Clock Reap 0 h in absurd (omega arith)
-same_command Clock Post h = let e : ◌≡◌ {A = ℕ} 99 112 = differ Clock Post 0 h in absurd (omega arith)
-same_command Clock Poll h = let e : ◌≡◌ {A = ℕ} 99 112 = differ Clock Poll 0 h in absurd (omega arith)
-same_command Reap Clock h = let e : ◌≡◌ {A = ℕ} 114 99 = differ Reap Clock 0 h in absurd (omega arith)
-same_command Reap Reap h = refl
-same_command Reap Post h = let e : ◌≡◌ {A = ℕ} 114 112 = differ Reap Post 0 h in absurd (omega arith)
-same_command Reap Poll h = let e : ◌≡◌ {A = ℕ} 114 112 = differ Reap Poll 0 h in absurd (omega arith)
-same_command Post Clock h = let e : ◌≡◌ {A = ℕ} 112 99 = differ Post Clock 0 h in absurd (omega arith)
-same_command Post Reap h = let e : ◌≡◌ {A = ℕ} 112 114 = differ Post Reap 0 h in absurd (omega arith)
-same_command Post Post h = refl
-same_command Post Poll h = let e : ◌≡◌ {A = ℕ} 115 108 = differ Post Poll 2 h in absurd (omega arith)
-same_command Poll Clock h = let e : ◌≡◌ {A = ℕ} 112 99 = differ Poll Clock 0 h in absurd (omega arith)
-same_command Poll Reap h = let e : ◌≡◌ {A = ℕ} 112 114 = differ Poll Reap 0 h in absurd (omega arith)
-same_command Poll Post h = let e : ◌≡◌ {A = ℕ} 108 115 = differ Poll Post 2 h in absurd (omega arith)
-same_command Poll Poll h = refl
+same_command c d h = sym (told_is c) ∙ ap told h ∙ told_is d
 
 command_sure : (text : List ℕ) → IsSure (command text)
 command_sure text = must_sure 2 0 _ (λ c d h k. same_command c d (sym h ∙ k))
@@ -89,6 +94,32 @@ reap_line_sure workers text =
     next_sure _ _ (number_sure greatest_number p) (λ n.
     next_sure _ _ (worker_sure workers p n) (λ w. says_sure _)))
 
+two_workers_sure : (workers : ℕ) (text : List ℕ) → IsSure (two_workers workers text)
+two_workers_sure workers text =
+    next_sure _ _ (two_words_sure text) (λ p.
+    next_sure _ _ (number_sure greatest_number p.0) (λ n.
+    next_sure _ _ (number_sure greatest_number p.1) (λ m.
+    next_sure _ _ (worker_sure workers p.0 n) (λ w.
+    next_sure _ _ (worker_sure workers p.1 m) (λ v. says_sure _)))))
+
+carry_line_sure : (workers : ℕ) (text : List ℕ) → IsSure (carry_line workers text)
+carry_line_sure workers text = next_sure _ _ (two_workers_sure workers text) (λ p. says_sure _)
+
+take_line_sure : (workers : ℕ) (text : List ℕ) → IsSure (take_line workers text)
+take_line_sure workers text = next_sure _ _ (two_workers_sure workers text) (λ p. says_sure _)
+
+settle_line_sure : (text : List ℕ) → IsSure (settle_line text)
+settle_line_sure text =
+    next_sure _ _ (one_word_sure text) (λ p.
+    next_sure _ _ (number_sure greatest_number p) (λ n. says_sure _))
+
+info_line_sure : (workers : ℕ) (text : List ℕ) → IsSure (info_line workers text)
+info_line_sure workers text =
+    next_sure _ _ (two_words_sure text) (λ p.
+    next_sure _ _ (number_sure greatest_number p.0) (λ n.
+    next_sure _ _ (worker_sure workers p.0 n) (λ w.
+    next_sure _ _ (name_sure p.1) (λ c. says_sure _))))
+
 module _ (one_meaning : (text : List ℕ) → OneMeaning text) (one_place : (text : List ℕ) → OnePlace text) where
   post_line_sure : (workers : ℕ) (text : List ℕ) → IsSure (post_line workers text)
   post_line_sure workers text =
@@ -112,6 +143,10 @@ module _ (one_meaning : (text : List ℕ) → OneMeaning text) (one_place : (tex
   command_line_sure workers text Reap = reap_line_sure workers text
   command_line_sure workers text Post = post_line_sure workers text
   command_line_sure workers text Poll = poll_line_sure workers text
+  command_line_sure workers text Carry = carry_line_sure workers text
+  command_line_sure workers text Take = take_line_sure workers text
+  command_line_sure workers text Settle = settle_line_sure text
+  command_line_sure workers text Info = info_line_sure workers text
 
   pub lines_sure : LinesAreSure
   lines_sure workers text =

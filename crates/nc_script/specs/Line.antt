@@ -2,9 +2,9 @@
 use Rattle.std.specs.Prelude.{◌≡◌, ℕ, ◌+◌, ◌<◌, ◌≤◌, List, [], ◌∷◌, ◌++◌, codes, length, ◌==◌, Bool, true, drop}
 use Rattle.std.specs.List.{before_first}
 use Rattle.nc_script.specs.declared.command.Command.{Command}
-use Rattle.nc_script.specs.declared.command.Command.TheVariants.{Clock as ClockCommand, Reap as ReapCommand, Post as PostCommand, Poll as PollCommand}
+use Rattle.nc_script.specs.declared.command.Command.TheVariants.{Clock as ClockCommand, Reap as ReapCommand, Post as PostCommand, Poll as PollCommand, Carry as CarryCommand, Take as TakeCommand, Settle as SettleCommand, Info as InfoCommand}
 use Rattle.nc_script.specs.declared.line.Line.{Line}
-use Rattle.nc_script.specs.declared.line.Line.TheVariants.{Blank, Clock, Reap, Post, Poll}
+use Rattle.nc_script.specs.declared.line.Line.TheVariants.{Blank, Clock, Reap, Post, Poll, Carry, Take, Settle, Inform}
 use Rattle.nc_script.specs.Word.{Word, words_from}
 use Rattle.nc_script.specs.Judge.{Judge, says, must, next, chosen}
 use Rattle.nc_script.specs.Part.{number, greatest_number, worker, body, name, list, start}
@@ -29,6 +29,10 @@ command_word ClockCommand = codes "clock"
 command_word ReapCommand = codes "reap"
 command_word PostCommand = codes "post"
 command_word PollCommand = codes "poll"
+command_word CarryCommand = codes "carry"
+command_word TakeCommand = codes "take"
+command_word SettleCommand = codes "settle"
+command_word InfoCommand = codes "info"
 
 -- rule 2: the first word is a command
 abbrev pub command : List ℕ → Judge Command
@@ -116,11 +120,49 @@ poll_line workers text =
     next (start (length cs) p.fourth) (λ s.
     says (Poll w k cs s)))))))
 
+-- two workers and nothing else: both numbers are judged before the workers, and of these the first one first
+abbrev pub two_workers : ℕ → List ℕ → Judge (ℕ × ℕ)
+two_workers workers text =
+    next (two_words text) (λ p.
+    next (number greatest_number p.0) (λ n.
+    next (number greatest_number p.1) (λ m.
+    next (worker workers p.0 n) (λ w.
+    next (worker workers p.1 m) (λ v.
+    says (w, v))))))
+
+-- `carry W V`
+abbrev pub carry_line : ℕ → List ℕ → Judge Line
+carry_line workers text = next (two_workers workers text) (λ p. says (Carry p.0 p.1))
+
+-- `take W V`
+abbrev pub take_line : ℕ → List ℕ → Judge Line
+take_line workers text = next (two_workers workers text) (λ p. says (Take p.0 p.1))
+
+-- `settle N`
+abbrev pub settle_line : List ℕ → Judge Line
+settle_line text =
+    next (one_word text) (λ p.
+    next (number greatest_number p) (λ n.
+    says (Settle n)))
+
+-- `info W NAME`
+abbrev pub info_line : ℕ → List ℕ → Judge Line
+info_line workers text =
+    next (two_words text) (λ p.
+    next (number greatest_number p.0) (λ n.
+    next (worker workers p.0 n) (λ w.
+    next (name p.1) (λ c.
+    says (Inform w c)))))
+
 abbrev pub command_line : ℕ → List ℕ → Command → Judge Line
 command_line workers text ClockCommand = clock_line workers text
 command_line workers text ReapCommand = reap_line workers text
 command_line workers text PostCommand = post_line workers text
 command_line workers text PollCommand = poll_line workers text
+command_line workers text CarryCommand = carry_line workers text
+command_line workers text TakeCommand = take_line workers text
+command_line workers text SettleCommand = settle_line text
+command_line workers text InfoCommand = info_line workers text
 
 -- a line that isn't blank begins with a command
 abbrev pub full_line : ℕ → List ℕ → Judge Line

@@ -7,4 +7,8 @@ pub enum Command {
     Reap,
     Post,
     Poll,
+    Carry,
+    Take,
+    Settle,
+    Info,
 }

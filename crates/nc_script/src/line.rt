@@ -28,4 +28,23 @@ pub enum Line {
         list: ChanList,
         start: Start,
     },
+    /// The first packet of the worker's outbox to another goes into the ring, if there is one and the ring has room.
+    Carry {
+        w: u8,
+        to: u8,
+    },
+    /// The worker takes the first packet of the ring from another and handles it, if there is one.
+    Take {
+        w: u8,
+        from: u8,
+    },
+    /// At most `n` carries and takes that do something, in rounds.
+    Settle {
+        n: u64,
+    },
+    /// Information on a channel is asked for.
+    Inform {
+        w: u8,
+        chan: ChanName,
+    },
 }

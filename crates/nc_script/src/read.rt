@@ -1,7 +1,7 @@
 //! Lines read, by the rules in their order.
 ghost use Rattle.std.specs.Prelude.{◌≡◌, ◌≤◌, ℕ, List, length};
 ghost use Rattle.nc_script.specs.Judge.{Judged};
-ghost use Rattle.nc_script.specs.Line.{clock_line, reap_line, post_line, poll_line, command_line, full_line, written_line, line};
+ghost use Rattle.nc_script.specs.Line.{clock_line, reap_line, post_line, poll_line, two_workers, carry_line, take_line, settle_line, info_line, command_line, full_line, written_line, line};
 
 use crate::command::Command;
 use crate::fault::LineFault;
@@ -66,6 +66,55 @@ fn poll_line(alloc: Global, text: &[u8], workers: u8) -> Result<Line, LineFault>
     Ok(Line::Poll { w, k, list, start })
 }
 
+/// The two workers of a line that has no more words.
+fn two_workers(text: &[u8], workers: u8) -> Result<(u8, u8), LineFault>
+    ensures { Judged (two_workers workers text.now) result }
+{
+    let (first, second) = two_words(text)?;
+    let n = number(&first, GREATEST_NUMBER)?;
+    let m = number(&second, GREATEST_NUMBER)?;
+    let w = worker(&first, n, workers)?;
+    let v = worker(&second, m, workers)?;
+    Ok((w, v))
+}
+
+/// `carry W V`
+fn carry_line(text: &[u8], workers: u8) -> Result<Line, LineFault>
+    ensures { Judged (carry_line workers text.now) result }
+{
+    let (w, to) = two_workers(text, workers)?;
+    Ok(Line::Carry { w, to })
+}
+
+/// `take W V`
+fn take_line(text: &[u8], workers: u8) -> Result<Line, LineFault>
+    ensures { Judged (take_line workers text.now) result }
+{
+    let (w, from) = two_workers(text, workers)?;
+    Ok(Line::Take { w, from })
+}
+
+/// `settle N`
+fn settle_line(text: &[u8]) -> Result<Line, LineFault>
+    ensures { Judged (settle_line text.now) result }
+{
+    let word = one_word(text)?;
+    let n = number(&word, GREATEST_NUMBER)?;
+    Ok(Line::Settle { n })
+}
+
+/// `info W NAME`
+fn info_line(alloc: Global, text: &[u8], workers: u8) -> Result<Line, LineFault>
+    ensures { Judged (info_line workers text.now) result }
+{
+    let (first, second) = two_words(text)?;
+    let n = number(&first, GREATEST_NUMBER)?;
+    let w = worker(&first, n, workers)?;
+    let bytes = name(alloc, &second)?;
+    let chan = ChanName { bytes };
+    Ok(Line::Inform { w, chan })
+}
+
 /// A line that isn't blank.
 fn full_line(alloc: Global, text: &[u8], workers: u8) -> Result<Line, LineFault>
     ensures { Judged (full_line workers text.now) result }
@@ -75,6 +124,10 @@ fn full_line(alloc: Global, text: &[u8], workers: u8) -> Result<Line, LineFault>
         Command::Reap => reap_line(text, workers),
         Command::Post => post_line(alloc, text, workers),
         Command::Poll => poll_line(alloc, text, workers),
+        Command::Carry => carry_line(text, workers),
+        Command::Take => take_line(text, workers),
+        Command::Settle => settle_line(text),
+        Command::Info => info_line(alloc, text, workers),
     }
 }
 

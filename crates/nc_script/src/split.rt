@@ -30,6 +30,10 @@ pub(crate) fn command(text: &[u8]) -> Result<Command, LineFault>
         b"reap" => Ok(Command::Reap),
         b"post" => Ok(Command::Post),
         b"poll" => Ok(Command::Poll),
+        b"carry" => Ok(Command::Carry),
+        b"take" => Ok(Command::Take),
+        b"settle" => Ok(Command::Settle),
+        b"info" => Ok(Command::Info),
         _ => Err(LineFault::Rule { rule: 2, at: 0 }),
     }
 }

@@ -1,6 +1,6 @@
 //! Rows of `nc_script`: lines of a script, and what each says or which rule it breaks where.
 use crate::print::{bytes_of, cut, number, put_bytes, put_number, put_part};
-use nc_script::laws::lines_are_sure;
+use nc_script::laws::{lines_are_sure, lines_fit};
 use nc_script::{Line, LineFault, place_of, read_line};
 use nc_types::tags::put_cursor;
 use nc_types::{Bytes, ChanList, ChanName, NoMemory, Start};
@@ -62,6 +62,24 @@ fn put_poll(
     put_start(out, start)
 }
 
+/// What a carry or a take says.
+fn put_move(out: &mut Vec<u8>, kind: &[u8], w: u8, other: u8) -> Result<(), NoMemory> {
+    put_part(out, kind)?;
+    put_number(out, u64::from(w))?;
+    put_number(out, u64::from(other))
+}
+
+fn put_settle(out: &mut Vec<u8>, n: u64) -> Result<(), NoMemory> {
+    put_part(out, b"settle")?;
+    put_number(out, n)
+}
+
+fn put_inform(out: &mut Vec<u8>, w: u8, chan: &ChanName) -> Result<(), NoMemory> {
+    put_part(out, b"info")?;
+    put_number(out, u64::from(w))?;
+    put_bytes(out, chan.bytes.as_slice())
+}
+
 fn put_line(out: &mut Vec<u8>, line: &Line) -> Result<(), NoMemory> {
     match line {
         Line::Blank => put_part(out, b"blank"),
@@ -69,6 +87,10 @@ fn put_line(out: &mut Vec<u8>, line: &Line) -> Result<(), NoMemory> {
         Line::Reap { w } => put_reap(out, *w),
         Line::Post { w, chan, body } => put_post(out, *w, chan, body),
         Line::Poll { w, k, list, start } => put_poll(out, *w, *k, list, start),
+        Line::Carry { w, to } => put_move(out, b"carry", *w, *to),
+        Line::Take { w, from } => put_move(out, b"take", *w, *from),
+        Line::Settle { n } => put_settle(out, *n),
+        Line::Inform { w, chan } => put_inform(out, *w, chan),
     }
 }
 
@@ -98,6 +120,10 @@ fn put_kind(out: &mut Vec<u8>, line: &Line) -> Result<(), NoMemory> {
         Line::Reap { .. } => put_part(out, b"reap"),
         Line::Post { .. } => put_part(out, b"post"),
         Line::Poll { .. } => put_part(out, b"poll"),
+        Line::Carry { .. } => put_part(out, b"carry"),
+        Line::Take { .. } => put_part(out, b"take"),
+        Line::Settle { .. } => put_part(out, b"settle"),
+        Line::Inform { .. } => put_part(out, b"info"),
     }
 }
 
@@ -129,6 +155,7 @@ pub(crate) fn answer(alloc: Global, out: &mut Vec<u8>, row: &str) -> Result<(), 
         "long" => long_line(alloc, out, rest),
         "laws" => {
             lines_are_sure();
+            lines_fit();
             put_part(out, b"hold")
         }
         _ => put_part(out, b"no call"),

@@ -5,21 +5,19 @@ use Rattle.nc_outside.specs.Pieces.{Gives, GivesAll}
 use Rattle.nc_cli.specs.Words.{usage_text}
 use Rattle.nc_conf.specs.Reading.{HasConfig}
 use Rattle.nc_journal.specs.declared.event.Event.{Event}
-use Rattle.nc_journal.specs.Lawful.{IsLawful}
 use Rattle.nc_journal.specs.Text.{text_of}
 use Rattle.nc_replay.specs.declared.fault.Fault.{Fault}
 use Rattle.nc_replay.specs.declared.fault.Misconfigured.{Misconfigured as ConfigFault}
 use Rattle.nc_replay.specs.Input.{longest_input, AddsPrefix}
 use Rattle.nc_replay.specs.Script.{IsFaulty, IsMisconfigured}
-use Rattle.nc_replay.specs.Top.{Passes, Fails, fault_text, misconfigured_text, accepted_text, CutsOffSome, CutsOffVerdict}
+use Rattle.nc_replay.specs.Top.{Passes, Fails, Wears, fault_text, misconfigured_text, accepted_text, CutsOffSome, CutsOffVerdict}
 
--- a script was given to its end; all its lines were made and lead to a lawful history, whose text was taken and nothing else
+-- a script was given to its end; all its lines were made, and the text of their history was taken and nothing else: it is lawful and follows them
 pub record Replayed (given : List (List ℕ)) (taken : List ℕ) : Type 0 where
   pub script : List ℕ
   pub all : GivesAll script [] given
   pub h : List Event
-  pub passes : Passes script h
-  pub lawful : IsLawful 1 h
+  pub passes : Passes 0 script h
   pub written : taken ≡ text_of h
 
 -- a script was given to its end, a line of which breaks a rule; the text of the lawful history of those before it was taken,
@@ -29,9 +27,16 @@ pub record Refused (given : List (List ℕ)) (taken : List ℕ) : Type 0 where
   pub all : GivesAll script [] given
   pub h : List Event
   pub fault : Fault
-  pub fails : Fails script h fault
-  pub lawful : IsLawful 1 h
+  pub fails : Fails 0 script h fault
   pub written : taken ≡ text_of h ++ fault_text fault
+
+-- a script was given to its end, a line of which would call on a worn worker; the text of the lawful history of what was made before that was taken
+pub record WornOut (given : List (List ℕ)) (taken : List ℕ) : Type 0 where
+  pub script : List ℕ
+  pub all : GivesAll script [] given
+  pub h : List Event
+  pub wears : Wears 0 script h
+  pub written : taken ≡ text_of h
 
 -- a script was given to its end whose configuration is refused, and its fault was taken
 pub record Misconfigured (given : List (List ℕ)) (taken : List ℕ) : Type 0 where
@@ -81,7 +86,7 @@ pub record TooLong (given : List (List ℕ)) (taken : List ℕ) : Type 0 where
 pub record CutOff (given : List (List ℕ)) (taken : List ℕ) : Type 0 where
   pub script : List ℕ
   pub all : GivesAll script [] given
-  pub cut : CutsOffSome script [] taken
+  pub cut : CutsOffSome 0 script [] taken
 
 -- a configuration was given to its end, and a prefix was taken of what a check says of it
 pub record CheckCutOff (given : List (List ℕ)) (taken : List ℕ) : Type 0 where

@@ -4,9 +4,9 @@ ghost use Rattle.nc_cli.specs.Words.{IsCommand};
 ghost use Rattle.nc_outside.specs.Fault.{HasRisen};
 ghost use Rattle.nc_outside.specs.Pieces.{GivesMore};
 ghost use Rattle.nc_replay.specs.Input.{longest_input, IsCalm};
-ghost use Rattle.nc_replay.specs.Top.{IsReplay, IsCheck, IsStatus, RefusedBy, MisconfiguredBy, RejectedBy};
+ghost use Rattle.nc_replay.specs.Top.{IsReplay, IsCheck, IsStatus, PassedBy, RefusedBy, WornBy, MisconfiguredBy, RejectedBy};
 ghost use Rattle.nchan.specs.Standard.{given_by, taken_by};
-ghost use Rattle.nchan.specs.Run.{Replayed, Refused, Misconfigured, Accepted, Rejected, Explained, OfGiven};
+ghost use Rattle.nchan.specs.Run.{Replayed, Refused, WornOut, Misconfigured, Accepted, Rejected, Explained, OfGiven};
 ghost use Rattle.nchan.specs.Run.{Unread, TooLong, CutOff, CheckCutOff, UsageCutOff};
 
 use crate::standard::{StdSink, StdSource};
@@ -26,6 +26,7 @@ pub fn run<R: Read + Drop, W: Write + Drop>(
 
     // 0: what the source gave is one script or configuration, and what the sink took is its answer and nothing else.
     ensures replayed { IsReplay (map string_bytes words.now) → result ≡ 0 → Replayed (given_by input.new) (taken_by out.new) }
+    ensures replayed_always { IsReplay (map string_bytes words.now) → OfGiven (PassedBy 0 result) (given_by input.new) }
     ensures accepted { IsCheck (map string_bytes words.now) → result ≡ 0 → Accepted (given_by input.new) (taken_by out.new) }
 
     // 2: the words are no command.
@@ -33,7 +34,7 @@ pub fn run<R: Read + Drop, W: Write + Drop>(
 
     // 3: a line breaks a rule; it comes always then, but where the work stopped.
     ensures refused { result ≡ 3 → IsReplay (map string_bytes words.now) × Refused (given_by input.new) (taken_by out.new) }
-    ensures refused_always { IsReplay (map string_bytes words.now) → OfGiven (RefusedBy result) (given_by input.new) }
+    ensures refused_always { IsReplay (map string_bytes words.now) → OfGiven (RefusedBy 0 result) (given_by input.new) }
 
     // 4 and 7: the source failed, as its count tells, and the input is too long; nothing was taken.
     ensures unread { result ≡ 4 → Unread (given_by input.new) (taken_by out.new) }
@@ -60,6 +61,10 @@ pub fn run<R: Read + Drop, W: Write + Drop>(
     ensures misconfigured_always { IsReplay (map string_bytes words.now) → OfGiven (MisconfiguredBy result) (given_by input.new) }
     ensures rejected { IsCheck (map string_bytes words.now) → result ≡ 8 → Rejected (given_by input.new) (taken_by out.new) }
     ensures rejected_always { IsCheck (map string_bytes words.now) → OfGiven (RejectedBy result) (given_by input.new) }
+
+    // 9: a line would call on a worn worker; it comes always then, but where the work stopped.
+    ensures worn { result ≡ 9 → IsReplay (map string_bytes words.now) × WornOut (given_by input.new) (taken_by out.new) }
+    ensures worn_always { IsReplay (map string_bytes words.now) → OfGiven (WornBy 0 result) (given_by input.new) }
 {
     nc_replay::top(alloc, words, input, out)
 }

@@ -2,7 +2,7 @@
 use crate::objects::{Endless, Full, Sips};
 use crate::row::Row;
 use nc_outside::{Failed, MemSink, MemSource, Sink, Source, SureSink, SureSource};
-use nc_replay::top;
+use nc_replay::{replay, top};
 use nc_types::text::put_decimal;
 use nc_types::{Bytes, List, NoMemory};
 use std::alloc::Global;
@@ -44,6 +44,20 @@ fn put_number(out: &mut Vec<u8>, label: &[u8], number: u64) -> Result<(), NoMemo
     Ok(())
 }
 
+/// Runs a row's command over these, or a replay whose numbers begin where the row says, and gives the status.
+fn status_of<S: Source, K: Sink>(
+    alloc: Global,
+    row: &Row,
+    input: &mut S,
+    sink: &mut K,
+) -> Result<u8, NoMemory> {
+    if let Some(first) = row.number("first=") {
+        return Ok(replay(alloc, first, input, sink));
+    }
+    let words = words_of(alloc, row.words())?;
+    Ok(top(alloc, &words, input, sink))
+}
+
 /// Runs a row's command over these, and prints its status.
 fn put_status<S: Source, K: Sink>(
     alloc: Global,
@@ -52,8 +66,7 @@ fn put_status<S: Source, K: Sink>(
     sink: &mut K,
     out: &mut Vec<u8>,
 ) -> Result<(), NoMemory> {
-    let words = words_of(alloc, row.words())?;
-    let status = top(alloc, &words, input, sink);
+    let status = status_of(alloc, row, input, sink)?;
     put_number(out, b"= ", u64::from(status))
 }
 

@@ -2,7 +2,8 @@
 //!
 //! A row on standard input is a line `> WORDS` and the text behind it, up to the next row; behind `>~ WORDS` the text's
 //! last LF is left out. The row is printed as it came, then `= STATUS`, and then what the command wrote. Behind `WORDS | `
-//! stand words on the source and the sink:
+//! stand words on the run:
+//! - `first=N`: a replay is run whose workers draw their numbers from N on, in place of the command;
 //! - `read=N`, `write=N`: the read or the write of this number fails, counted from 0;
 //! - `sips`: the source gives at most 16 bytes at each read;
 //! - `times=N`: the byte before each `%` of the text stands N times;
@@ -14,8 +15,9 @@
 //! - `pieces`: no command is run, but each line is written: how many bytes of it were taken is printed, or `!`.
 //!
 //! Of what was written a byte that stands more than 99 times in a row is printed once, with `*` and how often.
-//! The rows of the repository lie in `stdin`, and what they come to, worked out by hand, in `stdout`; the gate compares.
-//! Below stands `nc_replay`, whose top call is run.
+//! The rows of the repository lie in `stdin`, and what they come to in `stdout`; the gate compares. The faults were worked
+//! out by hand, and the journals by a second program that follows the rules alone.
+//! Below stands `nc_replay`, whose top call is run, and its replay where the numbers begin elsewhere.
 #![tactic(auto)]
 
 mod calls;

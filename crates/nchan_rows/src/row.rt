@@ -1,4 +1,4 @@
-//! A row: the words of a command, words on the source and the sink, and a text.
+//! A row: the words of a command, words on the run, and a text.
 use nc_types::NoMemory;
 use std::alloc::Global;
 
@@ -44,7 +44,7 @@ impl Row {
         head.split_once("| ").map_or(head, |parts| parts.0)
     }
 
-    /// The words on the source and the sink.
+    /// The words on the run.
     fn outside(&self) -> &str {
         self.head
             .as_str()
@@ -52,7 +52,7 @@ impl Row {
             .map_or("", |parts| parts.1)
     }
 
-    /// Whether this word stands among those on the source and the sink.
+    /// Whether this word stands among those on the run.
     pub fn has(&self, word: &str) -> bool {
         self.outside().split_ascii_whitespace().any(|w| w == word)
     }

@@ -1,5 +1,5 @@
 use Rattle.std.proofs.Common.{Err, ap}
-use Rattle.nc_replay.specs.declared.replay.Stop.{Stop}
+use Rattle.nc_replay.specs.declared.making.Stop.{Stop}
 use Rattle.nc_replay.proofs.Verdicts.{cut-off}
 use Rattle.nc_replay.proofs.check.check.Goals as goal
 
