@@ -10,11 +10,10 @@ use Rattle.nc_types.specs.Channel.{AreDistinct}
 use Rattle.nc_types.specs.declared.start.Start.{Start}
 use Rattle.nc_journal.specs.History.{Along, own, is_by}
 use Rattle.nc_journal.specs.Standing.{SubscribesAt, StartFits, Stage, Starting, Standing, Over, started, served, is_once, stage_of, OrderedAt}
-use Rattle.nc_journal.specs.Sending.{SentFrom, SentAt}
+use Rattle.nc_journal.specs.Sending.{SentFrom, SentAt, StartsFrom, StartedAt}
 use Rattle.nc_journal.specs.declared.event.Event.{Event}
 use Rattle.nc_journal.specs.declared.event.Event.TheVariants.{Subscribed, Started, Sent, Ended}
-use Rattle.nc_starts.specs.Newest.{greatest_time, tag_within}
-use Rattle.nc_starts.specs.Starts.{StartsWhere, StartedIn}
+use Rattle.nc_journal.specs.Newest.{greatest_time, tag_within}
 use Rattle.nc_exact.specs.Exact.{SendsLawfully}
 
 -- ---- what each sent moves
@@ -56,13 +55,13 @@ abbrev pub TagsFitAt : List Event → Event → Type 0
 TagsFitAt h (Started w k cur) = TagsFit cur (stage_of k (own w h))
 TagsFitAt h _ = Unit {0}
 
-start_fits : (workers w k : ℕ) (cur : CursorAt) (newer older : List Event) (s : Stage) → StartsWhere workers w k cur newer older s → TagsFit cur s
+start_fits : (workers w k : ℕ) (cur : CursorAt) (newer older : List Event) (s : Stage) → StartsFrom workers w k cur newer older s → TagsFit cur s
 start_fits workers w k cur newer older (Starting list once Oldest) at = λ f. ap (λ (x : CursorAt). length x.tags) at ∙ length-map list (λ (c : List ℕ). negsuc 0)
 start_fits workers w k cur newer older (Starting list once (Given from)) at = λ f. ap (λ (x : CursorAt). length x.tags) at ∙ f
 start_fits workers w k cur newer older (Starting list once Newest) at = λ f. ap (λ (x : CursorAt). length x.tags) at.starts.cursor ∙ length-map at.starts.lasts (tag_within (greatest_time at.starts.lasts)) ∙ at.starts.lasts_each
 start_fits workers w k cur newer older s at = absurd at
 
-starting_at : (workers : ℕ) (newer : List Event) (e : Event) (older : List Event) → StartedIn workers newer e older → TagsFitAt older e
+starting_at : (workers : ℕ) (newer : List Event) (e : Event) (older : List Event) → StartedAt workers newer e older → TagsFitAt older e
 starting_at workers newer (Started w k cur) older s = start_fits workers w k cur newer older (stage_of k (own w older)) s
 starting_at workers newer e older s = tt
 

@@ -1,14 +1,13 @@
 -- What is carried promises what a user relies on.
 use Rattle.std.proofs.Common.{List, [], ◌∷◌, subst}
 use Rattle.nc_journal.specs.History.{Along}
-use Rattle.nc_journal.specs.Sending.{IsSentLawfully}
+use Rattle.nc_journal.specs.Sending.{IsSentLawfully, IsStartedLawfully}
 use Rattle.nc_journal.specs.declared.event.Event.{Event}
 use Rattle.nc_sends.specs.Fences.{FencedAt}
 use Rattle.nc_sends.specs.GoodSends.{IsGoodSend}
 use Rattle.nc_sends.specs.Stays.{SentThen}
 use Rattle.nc_sends.specs.Taken.{TakenAt}
 use Rattle.nc_sends.proofs.Later.{fences_stay, sends_stay}
-use Rattle.nc_starts.specs.Starts.{AreStartedLawfully}
 use Rattle.nc_starts.proofs.Starts.{starts_stay}
 use Rattle.nc_exact.specs.Carried.{CarriedPromises}
 use Rattle.nc_exact.specs.Exact.{SendsLawfully}
@@ -23,7 +22,7 @@ pub carried_promises : CarriedPromises
 carried_promises workers h k =
     let fenced : Along (FencedAt workers) h = along_weaker (IsGoodSend workers) (FencedAt workers) (λ g e x. x.fenced) h k.sent in
     let sent : IsSentLawfully workers h = sends_stay workers h k.owners.stamped (along_weaker (IsGoodSend workers) (SentThen workers) (λ g e x. x.sent) h k.sent) fenced in
-    let started : AreStartedLawfully workers h = starts_stay workers h k.owners.stamped k.owners.looks k.started in
+    let started : IsStartedLawfully workers h = starts_stay workers h k.owners.stamped k.owners.looks k.started in
     let all : SendsLawfully workers h = record { sent = sent; started = started; standing = k.standing } in
     record {
       sent = sent;

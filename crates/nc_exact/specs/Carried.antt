@@ -3,13 +3,13 @@ use Rattle.std.specs.Prelude.{◌≡◌, ℕ, List, ◌++◌}
 use Rattle.nc_types.specs.Cursor.{CursorAt}
 use Rattle.nc_journal.specs.History.{Along, own, AtEachCut}
 use Rattle.nc_journal.specs.Standing.{stage_of, IsStandingRule}
-use Rattle.nc_journal.specs.Sending.{IsSentLawfully}
+use Rattle.nc_journal.specs.Sending.{IsSentLawfully, IsStartedLawfully}
 use Rattle.nc_journal.specs.declared.event.Event.{Event}
 use Rattle.nc_rests.specs.Owners.{Owners}
 use Rattle.nc_sends.specs.Fences.{FencedSince}
 use Rattle.nc_sends.specs.GoodSends.{IsGoodSend}
 use Rattle.nc_sends.specs.Taken.{TakenAt}
-use Rattle.nc_starts.specs.Starts.{AreStartedLawfully, StartedThen}
+use Rattle.nc_starts.specs.Starts.{StartedThen}
 use Rattle.nc_exact.specs.Exact.{ResumesExactly}
 use Rattle.nc_exact.specs.Sent.{StandsAt, RisesFor}
 
@@ -24,7 +24,7 @@ pub record Carried (workers : ℕ) (h : List Event) : Type 0 where
 -- what each send rests on was taken; ids rise; and each cursor that a subscriber has come to is exact
 pub record Promised (workers : ℕ) (h : List Event) : Type 0 where
   pub sent : IsSentLawfully workers h
-  pub started : AreStartedLawfully workers h
+  pub started : IsStartedLawfully workers h
   pub fenced : AtEachCut (FencedSince workers) h
   pub taken : Along (TakenAt workers) h
   pub rises : Along RisesFor h

@@ -3,16 +3,15 @@ use Rattle.std.specs.Prelude.{◌≡◌, ℕ, List, ◌++◌, Some}
 use Rattle.nc_types.specs.Cursor.{CursorAt}
 use Rattle.nc_journal.specs.History.{Along, own}
 use Rattle.nc_journal.specs.Standing.{stage_of, IsStandingRule}
-use Rattle.nc_journal.specs.Sending.{IsSentLawfully}
+use Rattle.nc_journal.specs.Sending.{IsSentLawfully, IsStartedLawfully}
 use Rattle.nc_journal.specs.declared.event.Event.{Event}
-use Rattle.nc_starts.specs.Starts.{AreStartedLawfully}
 use Rattle.nc_exact.specs.Fares.{IsExact}
 use Rattle.nc_exact.specs.Sent.{first_cursor, StandsAt, RisesFor}
 
 -- a history in which all that is sent was sent lawfully
 pub record SendsLawfully (workers : ℕ) (h : List Event) : Type 0 where
   pub sent : IsSentLawfully workers h
-  pub started : AreStartedLawfully workers h
+  pub started : IsStartedLawfully workers h
   pub standing : IsStandingRule h
 
 -- whoever has come to a cursor has started somewhere, and the cursor is exact

@@ -2,6 +2,8 @@ pub mod History
 pub mod Stamp
 pub mod Message
 pub mod Standing
+pub mod Edges
+pub mod Newest
 pub mod Sending
 pub mod Lawful
 pub mod Word

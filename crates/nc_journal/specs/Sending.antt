@@ -4,10 +4,11 @@ use Rattle.std.specs.List.{AllByRecursion}
 use Rattle.nc_types.specs.Id.{Id, IsPast}
 use Rattle.nc_types.specs.Cursor.{CursorAt, cursor_id, moved}
 use Rattle.nc_types.specs.Channel.{owner_of}
-use Rattle.nc_types.specs.declared.start.Start.TheVariants.{Oldest, Given}
+use Rattle.nc_types.specs.declared.start.Start.TheVariants.{Oldest, Newest, Given}
 use Rattle.nc_journal.specs.History.{own, Along, AtEachCut}
 use Rattle.nc_journal.specs.Message.{Message, published, buffer}
 use Rattle.nc_journal.specs.Standing.{Stage, Starting, Standing, stage_of}
+use Rattle.nc_journal.specs.Newest.{StartsNewest}
 use Rattle.nc_journal.specs.declared.event.Event.{Event}
 use Rattle.nc_journal.specs.declared.event.Event.TheVariants.{Started, Sent, Looked, Quiet}
 
@@ -58,10 +59,11 @@ SentAt workers newer _ older = Unit {0}
 abbrev pub IsSentLawfully : ℕ → List Event → Type 0
 IsSentLawfully workers h = AtEachCut (SentAt workers) h
 
--- where a subscriber starts: before every message, or at the given cursor; none starts behind the newest yet
+-- where a subscriber starts: before every message, at the given cursor, or behind the newest messages by its edges
 abbrev pub StartsFrom : (workers w k : ℕ) → CursorAt → List Event → List Event → Stage → Type 0
 StartsFrom workers w k cur newer older (Starting list once Oldest) = cur ≡ record { time = 0; tags = map (λ c. negsuc 0) list }
 StartsFrom workers w k cur newer older (Starting list once (Given from)) = cur ≡ from
+StartsFrom workers w k cur newer older (Starting list once Newest) = StartsNewest workers w k list cur newer older
 StartsFrom workers w k cur newer older _ = ⊥
 
 abbrev pub StartedAt : ℕ → List Event → Event → List Event → Type 0

@@ -15,7 +15,7 @@ use Rattle.nc_owner_laws.specs.Wake.{made_to}
 use Rattle.nc_history.specs.Packets.{pending, lines_of, received, IsNext}
 use Rattle.nc_rests.proofs.Received.{received_same, received_more, made_is}
 use Rattle.nc_starts.specs.Asked.{edge_numbers, old_first, EdgesDone, EdgesFollow, HasTold, IsFirstEdge, FirstStays, StartsKnow}
-use Rattle.nc_starts.specs.Edges.{EdgeTold, edge_told, edges_of}
+use Rattle.nc_journal.specs.Edges.{EdgeTold, edge_told, edges_of}
 use Rattle.nc_starts.proofs.Edges.{edges_stay, edge_adds}
 
 -- ---- asks that were taken, and edges that were told

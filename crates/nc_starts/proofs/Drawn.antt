@@ -4,7 +4,7 @@ use Rattle.std.specs.Prelude.{◌==◌}
 use Rattle.nc_spool_state.specs.declared.edge.Edge.{Edge}
 use Rattle.nc_spool_state.specs.declared.edge.Edge.TheVariants.{Awaited, Known}
 use Rattle.nc_spool_state.specs.Edge.{edge_tag, later, newest_time}
-use Rattle.nc_starts.specs.Newest.{greatest_time, tag_within}
+use Rattle.nc_journal.specs.Newest.{greatest_time, tag_within}
 use Rattle.nc_starts.specs.Told.{edge_last, EdgesCursor}
 
 -- the greatest time, from a time on

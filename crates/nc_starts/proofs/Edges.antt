@@ -12,7 +12,8 @@ use Rattle.nc_owner_laws.specs.InOrder.{LooksAt}
 use Rattle.nc_rests.proofs.Locals.{other_channel}
 use Rattle.nc_rests.proofs.Looked.{name_self}
 use Rattle.nc_rests.proofs.Received.{eqb_self}
-use Rattle.nc_starts.specs.Edges.{IsEdge, EdgeTold, edge_told, edges_of, EdgesStay, EdgeAdds, EdgesOwn}
+use Rattle.nc_journal.specs.Edges.{IsEdge, EdgeTold, edge_told, edges_of}
+use Rattle.nc_starts.specs.Edges.{EdgesStay, EdgeAdds, EdgesOwn}
 
 -- ---- what an edge told
 

@@ -9,8 +9,8 @@ use Rattle.nc_types.specs.Channel.{owner_of, name_eq}
 use Rattle.nc_journal.specs.declared.event.Event.{Event}
 use Rattle.nc_journal.specs.declared.event.Event.TheVariants.{Edged}
 use Rattle.nc_rests.specs.Owners.{IsByOwner}
-use Rattle.nc_starts.specs.Edges.{IsEdge, EdgeTold, edge_told, edges_of, Edges, One, Two}
-use Rattle.nc_starts.specs.Newest.{greatest_time}
+use Rattle.nc_journal.specs.Edges.{IsEdge, EdgeTold, edge_told, edges_of, Edges, One, Two}
+use Rattle.nc_journal.specs.Newest.{greatest_time}
 use Rattle.nc_starts.specs.Told.{Told, Once, Twice, ToldStarts}
 
 -- the newest edge of some, in the whole history

@@ -19,8 +19,9 @@ use Rattle.nc_journal.proofs.Rising.{published-below, IsUpToLast}
 use Rattle.nc_owner_laws.specs.InOrder.{LooksAt}
 use Rattle.nc_rests.proofs.Histories.{along_older}
 use Rattle.nc_rests.proofs.Stamps.{floor_later, IsFrom, later_from}
-use Rattle.nc_starts.specs.Edges.{IsEdge, Edges, One, Two}
-use Rattle.nc_starts.specs.Newest.{greatest_time, tag_within, cursor_behind, StartsBehind, NewestStarts}
+use Rattle.nc_journal.specs.Edges.{IsEdge, Edges, One, Two}
+use Rattle.nc_journal.specs.Newest.{greatest_time, tag_within, cursor_behind, StartsBehind}
+use Rattle.nc_starts.specs.Newest.{NewestStarts}
 use Rattle.nc_starts.proofs.Behind.{later_past_last}
 use Rattle.nc_starts.proofs.Edges.{EdgeTells, along_own, edge_tells}
 

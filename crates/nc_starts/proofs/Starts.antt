@@ -13,9 +13,10 @@ use Rattle.nc_journal.specs.declared.event.Event.TheVariants.{Started}
 use Rattle.nc_journal.proofs.Buffers.{published-append}
 use Rattle.nc_owner_laws.specs.InOrder.{LooksAt}
 use Rattle.nc_rests.proofs.Histories.{along_at}
-use Rattle.nc_starts.specs.Edges.{since_last}
-use Rattle.nc_starts.specs.Newest.{StartsNewest}
-use Rattle.nc_starts.specs.Starts.{StartsWhere, StartedIn, StartsThen, StartedThen, StartsStay}
+use Rattle.nc_journal.specs.Edges.{since_last}
+use Rattle.nc_journal.specs.Newest.{StartsNewest}
+use Rattle.nc_journal.specs.Sending.{StartsFrom, StartedAt}
+use Rattle.nc_starts.specs.Starts.{StartsThen, StartedThen, StartsStay}
 use Rattle.nc_starts.proofs.Edges.{along_own}
 use Rattle.nc_starts.proofs.Newest.{newest_starts}
 
@@ -34,13 +35,13 @@ newest_skip workers w k list cur newer x older none s = record {
       record { before = b.before; later = subst (AllByRecursion (λ m. IsPast m.id (cursor_id cur j))) (published_skip c newer x (since_last (s.starts.edges j c last at_list at_lasts)) (none c)) b.later };
 }
 
-starts_from : (workers w k : ℕ) (cur : CursorAt) (newer : List Event) (x : Event) (older : List Event) (s : Stage) → ((c : List ℕ) → published c (x ∷ []) ≡ []) → IsStamped workers ((newer ++ x ∷ []) ++ older) → ((o : ℕ) → Along LooksAt (own o older)) → StartsThen workers w k cur older s → StartsWhere workers w k cur newer older s
+starts_from : (workers w k : ℕ) (cur : CursorAt) (newer : List Event) (x : Event) (older : List Event) (s : Stage) → ((c : List ℕ) → published c (x ∷ []) ≡ []) → IsStamped workers ((newer ++ x ∷ []) ++ older) → ((o : ℕ) → Along LooksAt (own o older)) → StartsThen workers w k cur older s → StartsFrom workers w k cur newer older s
 starts_from workers w k cur newer x older (Starting list once Oldest) none stamped tells s = s
 starts_from workers w k cur newer x older (Starting list once (Given from)) none stamped tells s = s
 starts_from workers w k cur newer x older (Starting list once Newest) none stamped tells s = newest_skip workers w k list cur newer x older none (newest_starts workers w k list cur (newer ++ x ∷ []) older stamped tells s)
 starts_from workers w k cur newer x older s none stamped tells at = absurd at
 
-started_in : (workers : ℕ) (newer : List Event) (e : Event) (older : List Event) → IsStamped workers ((newer ++ e ∷ []) ++ older) → ((o : ℕ) → Along LooksAt (own o older)) → StartedThen workers older e → StartedIn workers newer e older
+started_in : (workers : ℕ) (newer : List Event) (e : Event) (older : List Event) → IsStamped workers ((newer ++ e ∷ []) ++ older) → ((o : ℕ) → Along LooksAt (own o older)) → StartedThen workers older e → StartedAt workers newer e older
 started_in workers newer (Started w k cur) older stamped tells s = starts_from workers w k cur newer (Started w k cur) older (stage_of k (own w older)) (λ c. refl) stamped tells s
 started_in workers newer e older stamped tells s = tt
 

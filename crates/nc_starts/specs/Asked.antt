@@ -10,7 +10,8 @@ use Rattle.nc_journal.specs.declared.event.Event.TheVariants.{Edged, Took}
 use Rattle.nc_journal.specs.declared.word.AlertKind.{AlertKind}
 use Rattle.nc_owner_laws.specs.Wake.{made_to}
 use Rattle.nc_history.specs.Packets.{takes, received, IsNext}
-use Rattle.nc_starts.specs.Edges.{EdgeTold, is_edge_for, edges_of}
+use Rattle.nc_journal.specs.Edges.{EdgeTold, edges_of}
+use Rattle.nc_starts.specs.Edges.{is_edge_for}
 
 -- the numbers by which some alerts ask for edges of subscriber k at a channel, the first one first
 abbrev pub edge_numbers : ℕ → List ℕ → List AlertLine → List ℕ

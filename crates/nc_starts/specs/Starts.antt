@@ -1,27 +1,15 @@
--- Lawful starts, behind the newest messages too.
+-- What is so of each start when it is made, and that it stays lawful.
 use Rattle.std.specs.Prelude.{ℕ, List, []}
 use Rattle.nc_types.specs.declared.start.Start.TheVariants.{Newest}
 use Rattle.nc_types.specs.Cursor.{CursorAt}
-use Rattle.nc_journal.specs.History.{Along, own, AtEachCut}
+use Rattle.nc_journal.specs.History.{Along, own}
 use Rattle.nc_journal.specs.Stamp.{IsStamped}
 use Rattle.nc_journal.specs.Standing.{stage_of, Stage, Starting}
-use Rattle.nc_journal.specs.Sending.{StartsFrom}
+use Rattle.nc_journal.specs.Newest.{StartsByEdges}
+use Rattle.nc_journal.specs.Sending.{StartsFrom, IsStartedLawfully}
 use Rattle.nc_journal.specs.declared.event.Event.{Event}
 use Rattle.nc_journal.specs.declared.event.Event.TheVariants.{Started}
 use Rattle.nc_owner_laws.specs.InOrder.{LooksAt}
-use Rattle.nc_starts.specs.Newest.{StartsByEdges, StartsNewest}
-
--- where a subscriber starts: behind the newest by its edges, or as the journal's rules say
-abbrev pub StartsWhere : (workers w k : ℕ) → CursorAt → List Event → List Event → Stage → Type 0
-StartsWhere workers w k cur newer older (Starting list once Newest) = StartsNewest workers w k list cur newer older
-StartsWhere workers w k cur newer older s = StartsFrom workers w k cur newer older s
-
-abbrev pub StartedIn : ℕ → List Event → Event → List Event → Type 0
-StartedIn workers newer (Started w k cur) older = StartsWhere workers w k cur newer older (stage_of k (own w older))
-StartedIn workers newer _ older = Unit {0}
-
-abbrev pub AreStartedLawfully : ℕ → List Event → Type 0
-AreStartedLawfully workers h = AtEachCut (StartedIn workers) h
 
 -- what is so when it starts: no message is looked at, and nothing later
 abbrev pub StartsThen : (workers w k : ℕ) → CursorAt → List Event → Stage → Type 0
@@ -34,4 +22,4 @@ StartedThen workers older _ = Unit {0}
 
 -- under the stamp rule, starts that were so when they were made are lawful
 abbrev pub StartsStay : Type 0
-StartsStay = (workers : ℕ) (h : List Event) → IsStamped workers h → ((o : ℕ) → Along LooksAt (own o h)) → Along (StartedThen workers) h → AreStartedLawfully workers h
+StartsStay = (workers : ℕ) (h : List Event) → IsStamped workers h → ((o : ℕ) → Along LooksAt (own o h)) → Along (StartedThen workers) h → IsStartedLawfully workers h

@@ -7,8 +7,8 @@ use Rattle.nc_spool_state.specs.declared.edge.Edge.{Edge}
 use Rattle.nc_spool_state.specs.declared.edge.Edge.TheVariants.{Awaited, Known}
 use Rattle.nc_spool_state.specs.Edge.{newest_cursor}
 use Rattle.nc_rests.specs.Owners.{IsByOwner}
-use Rattle.nc_starts.specs.Edges.{EdgeTold, edges_of}
-use Rattle.nc_starts.specs.Newest.{greatest_time, cursor_behind, StartsByEdges}
+use Rattle.nc_journal.specs.Edges.{EdgeTold, edges_of}
+use Rattle.nc_journal.specs.Newest.{greatest_time, cursor_behind, StartsByEdges}
 
 -- the edges of a channel that a start has heard of: one whose floor isn't below the time, or a second one that isn't
 pub data Told (time : ℕ) (last : Id) : List EdgeTold → Type 0 where
