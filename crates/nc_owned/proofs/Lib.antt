@@ -1,3 +1,4 @@
 pub mod Shares
 pub mod Grants
 pub mod Sweeps
+pub mod Fences

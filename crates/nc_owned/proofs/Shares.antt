@@ -5,7 +5,7 @@ use Rattle.std.proofs.Math.Path.{fun_ext}
 use Rattle.std.proofs.lemmas.Bool.Decides.{eqb_tells}
 use Rattle.nc_types.specs.Message.{Message}
 use Rattle.nc_journal.specs.declared.event.Event.{Event}
-use Rattle.nc_journal.specs.declared.event.Event.TheVariants.{Joined, Parted, Stored, Left, Looked, Granted, Freed}
+use Rattle.nc_journal.specs.declared.event.Event.TheVariants.{Joined, Parted, Raised, Stored, Left, Looked, Edged, Granted, Freed}
 use Rattle.nc_journal.specs.declared.alert.AlertLine.{AlertLine}
 use Rattle.nc_journal.specs.declared.alert.AlertLine.TheVariants as lines
 use Rattle.nc_alert.specs.declared.alert.Alert.{Alert}
@@ -38,9 +38,11 @@ use Rattle.nc_scribe.proofs.Story.{tells_same}
 aside : (me : ℕ) (e : Event) → IsOfOwner me e → is_aside e ≡ true
 aside me (Joined w c from k) is = refl
 aside me (Parted w c from k) is = refl
+aside me (Raised w t) is = refl
 aside me (Stored w c id slot len exp kept members from r ct body) is = refl
 aside me (Left w c id slot cause) is = refl
 aside me (Looked w q from number c after floor found) is = refl
+aside me (Edged w q from number k c floor last) is = refl
 aside me (Granted w g slot to) is = refl
 aside me (Freed w slot) is = refl
 aside me e is = absurd is

@@ -33,7 +33,7 @@ pub fn publish<P: Slots>(
     Ok(())
 }
 
-/// A look of worker `from`. No fence is asked for.
+/// A look of worker `from`, behind a fence.
 pub fn look<P: Slots>(
     owner: &mut Owner,
     pool: &mut P,
@@ -42,12 +42,33 @@ pub fn look<P: Slots>(
     no: u64,
     c: ChanName,
     after: MsgId,
+    fence: u64,
 ) -> Result<(), NoMemory>
     requires me { scribe.old.me ≡ owner.old.desk.me }
     requires fits { Fits (P.slots pool.old owner.old.desk.me) owner.old }
-    ensures { OnOk result ((n fence : ℕ) → Owns P.held P.exact (TakesPacket from (packet n (lines.Look no c after fence))) (P.slots pool.old) (P.slots pool.new) (P.holds pool.old) (P.holds pool.new) owner.old owner.new scribe.old scribe.new) }
+    ensures { OnOk result ((n : ℕ) → Owns P.held P.exact (TakesPacket from (packet n (lines.Look no c after fence))) (P.slots pool.old) (P.slots pool.new) (P.holds pool.old) (P.holds pool.new) owner.old owner.new scribe.old scribe.new) }
 {
-    let done = owner.look(pool, from, no, c, after, 0)?;
+    let done = owner.look(pool, from, no, c, after, fence)?;
+    scribe.weave(done)?;
+    Ok(())
+}
+
+/// How far a channel has come, behind a fence, as worker `from` asks for its subscriber `k`.
+pub fn edge<P: Slots>(
+    owner: &mut Owner,
+    pool: &mut P,
+    scribe: &mut Scribe<P::Hold>,
+    from: u8,
+    no: u64,
+    k: u64,
+    c: ChanName,
+    fence: u64,
+) -> Result<(), NoMemory>
+    requires me { scribe.old.me ≡ owner.old.desk.me }
+    requires fits { Fits (P.slots pool.old owner.old.desk.me) owner.old }
+    ensures { OnOk result ((n : ℕ) → Owns P.held P.exact (TakesPacket from (packet n (lines.Edge no k c fence))) (P.slots pool.old) (P.slots pool.new) (P.holds pool.old) (P.holds pool.new) owner.old owner.new scribe.old scribe.new) }
+{
+    let done = owner.edge(pool, from, no, k, c, fence)?;
     scribe.weave(done)?;
     Ok(())
 }

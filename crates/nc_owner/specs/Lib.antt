@@ -11,6 +11,8 @@ pub mod PublishClauses
 pub mod Look
 pub mod Members
 pub mod OtherSteps
+pub mod Fence
+pub mod Edge
 pub mod Sweep
 pub mod Holds
 pub mod TouchedLook

@@ -10,6 +10,8 @@ mod backlog;
 mod channel;
 mod desk;
 mod done;
+mod edge;
+mod fence;
 mod information;
 mod joining;
 mod leave;

@@ -12,6 +12,7 @@ ghost use Rattle.nc_owner.specs.TouchedLook.{CarriesFound, CarriesSeen, seen, se
 ghost use Rattle.nc_owner.specs.Holds.{IsHoldOf};
 ghost use Rattle.nc_owner.specs.Leave.{spend_events, spent};
 ghost use Rattle.nc_owner.specs.AlertLines.{out_line, out_lines};
+ghost use Rattle.nc_owner.specs.Fence.{with_floor, raise_events};
 ghost use Rattle.nc_owner.specs.Look.{counted_at, id_of, found_on, found_line, found_holds, answered_events, answered, look_events, look_alerts, look_after, look_row, look_holds};
 ghost use Rattle.nc_owner.specs.Pool.{SameOthers};
 ghost use Rattle.nc_owner.specs.Publish.{granted_slot, one_hold};
@@ -236,43 +237,32 @@ fn look_at<P: Slots>(
 }
 
 impl Owner {
-    /// Looks for the first message of a channel past an id, for the look that worker `from` calls `number`.
-    ///
-    /// The channel is made if it isn't there. Where there is no such message, the worker is told of the next one.
-    pub fn look<P: Slots>(
+    /// Looks for the first message of a channel past an id, behind the events that were told before.
+    fn look_past<P: Slots>(
         &mut self,
         pool: &mut P,
-        from: u8,
-        number: u64,
+        asked: &Asked,
         chan: ChanName,
-        after: MsgId,
-        fence: u64,
+        mut events: List<Event>,
     ) -> Result<Done<P::Hold>, NoMemory>
-        requires { fence ≡ 0 }
-        ensures events { IfOk result (λ done. done.events.events ≡ look_events from number chan after (P.slots pool.old self.old.desk.me) self.old) }
-        ensures alerts { IfOk result (λ done. out_lines done.alerts ≡ look_alerts from number chan after (P.slots pool.old self.old.desk.me) self.old) }
-        ensures owner { OnOk result (self.new ≡ look_after from chan after (P.slots pool.old self.old.desk.me) self.old) }
-        ensures slots { OnOk result (P.slots pool.new self.old.desk.me ≡ look_row from chan after (P.slots pool.old self.old.desk.me) self.old) }
-        ensures carries { IfOk result (λ done. AllByRecursion (CarriesSeen P.held after (touched_of chan (P.slots pool.old self.old.desk.me) self.old)) done.alerts) }
+        ensures events { IfOk result (λ done. done.events.events ≡ events ++ look_events asked.now.from asked.now.number chan asked.now.after (P.slots pool.old self.old.desk.me) self.old) }
+        ensures alerts { IfOk result (λ done. out_lines done.alerts ≡ look_alerts asked.now.from asked.now.number chan asked.now.after (P.slots pool.old self.old.desk.me) self.old) }
+        ensures owner { OnOk result (self.new ≡ look_after asked.now.from chan asked.now.after (P.slots pool.old self.old.desk.me) self.old) }
+        ensures slots { OnOk result (P.slots pool.new self.old.desk.me ≡ look_row asked.now.from chan asked.now.after (P.slots pool.old self.old.desk.me) self.old) }
+        ensures carries { IfOk result (λ done. AllByRecursion (CarriesSeen P.held asked.now.after (touched_of chan (P.slots pool.old self.old.desk.me) self.old)) done.alerts) }
         ensures others { OnOk result (SameOthers self.old.desk.me (P.slots pool.old) (P.slots pool.new)) }
-        ensures holds { OnOk result (P.exact ≡ true → P.holds pool.new self.old.desk.me ≡ look_holds from chan after (P.slots pool.old self.old.desk.me) self.old (P.holds pool.old self.old.desk.me)) }
+        ensures holds { OnOk result (P.exact ≡ true → P.holds pool.new self.old.desk.me ≡ look_holds asked.now.from chan asked.now.after (P.slots pool.old self.old.desk.me) self.old (P.holds pool.old self.old.desk.me)) }
         ensures other_holds { OnOk result (P.exact ≡ true → SameOthers self.old.desk.me (P.holds pool.old) (P.holds pool.new)) }
-        ensures first { IfOk result (λ done. TellsFirst after (touched_of chan (P.slots pool.old self.old.desk.me) self.old) (out_lines done.alerts)) }
+        ensures first { IfOk result (λ done. TellsFirst asked.now.after (touched_of chan (P.slots pool.old self.old.desk.me) self.old) (out_lines done.alerts)) }
         ensures fresh { OnOk result (IsFresh chan self.new) }
     {
-        let asked = Asked {
-            from,
-            number,
-            after,
-        };
-        let mut events = List::new(self.alloc);
         let (mut channel, _) = self.open(pool, &chan, &mut events)?;
         let alloc = self.alloc;
         let out = look_at(
             alloc,
             &mut self.desk,
             pool,
-            &asked,
+            asked,
             &chan,
             &mut channel,
             &mut events,
@@ -284,5 +274,40 @@ impl Owner {
             events: EventList { events },
             alerts,
         })
+    }
+
+    /// Looks for the first message of a channel past an id, for the look that worker `from` calls `number`, once the floor was raised
+    /// to the fence.
+    ///
+    /// The channel is made if it isn't there. Where there is no such message, the worker is told of the next one.
+    pub fn look<P: Slots>(
+        &mut self,
+        pool: &mut P,
+        from: u8,
+        number: u64,
+        chan: ChanName,
+        after: MsgId,
+        fence: u64,
+    ) -> Result<Done<P::Hold>, NoMemory>
+        ensures events { IfOk result (λ done. done.events.events ≡ raise_events fence self.old ++ look_events from number chan after (P.slots pool.old self.old.desk.me) (with_floor fence self.old)) }
+        ensures alerts { IfOk result (λ done. out_lines done.alerts ≡ look_alerts from number chan after (P.slots pool.old self.old.desk.me) (with_floor fence self.old)) }
+        ensures owner { OnOk result (self.new ≡ look_after from chan after (P.slots pool.old self.old.desk.me) (with_floor fence self.old)) }
+        ensures slots { OnOk result (P.slots pool.new self.old.desk.me ≡ look_row from chan after (P.slots pool.old self.old.desk.me) (with_floor fence self.old)) }
+        ensures carries { IfOk result (λ done. AllByRecursion (CarriesSeen P.held after (touched_of chan (P.slots pool.old self.old.desk.me) (with_floor fence self.old))) done.alerts) }
+        ensures others { OnOk result (SameOthers self.old.desk.me (P.slots pool.old) (P.slots pool.new)) }
+        ensures holds { OnOk result (P.exact ≡ true → P.holds pool.new self.old.desk.me ≡ look_holds from chan after (P.slots pool.old self.old.desk.me) (with_floor fence self.old) (P.holds pool.old self.old.desk.me)) }
+        ensures other_holds { OnOk result (P.exact ≡ true → SameOthers self.old.desk.me (P.holds pool.old) (P.holds pool.new)) }
+        ensures first { IfOk result (λ done. TellsFirst after (touched_of chan (P.slots pool.old self.old.desk.me) (with_floor fence self.old)) (out_lines done.alerts)) }
+        ensures fresh { OnOk result (IsFresh chan self.new) }
+    {
+        let mut events = List::new(self.alloc);
+        self.raise_told(fence, &mut events)?;
+        let asked = Asked {
+            from,
+            number,
+            after,
+        };
+        let done = self.look_past(pool, &asked, chan, events)?;
+        Ok(done)
     }
 }

@@ -20,6 +20,7 @@ use Rattle.nc_owner.specs.Look.{found_on, looked_event, found_events, look_ready
 use Rattle.nc_owner.specs.OtherSteps.{touch_events_of}
 use Rattle.nc_owner_laws.specs.Kinds.{IsOfOwner, AreOfOwner, OwnersKinds}
 use Rattle.nc_owner_laws.proofs.Kept.{all_append}
+use Rattle.nc_owner_laws.proofs.Fences.{raise_are}
 
 module _ (me : ℕ) where
   of_left : (c : List ℕ) (cause : LeftCause) (es : List Entry) → AreOfOwner me (map (left_event me c cause) es)
@@ -75,6 +76,8 @@ owners_kinds row s = record {
   join = λ m c. all_append (IsOfOwner s.desk.me) (touch_events_of c row s) _ (of_touch c row s) (refl, tt);
   part = λ m c. all_append (IsOfOwner s.desk.me) (touch_events_of c row s) _ (of_touch c row s) (of_parted s.desk.me (has_member m (opened c s).members) c m);
   look = of_look row s;
+  raise = λ fence. raise_are (IsOfOwner s.desk.me) fence s refl;
+  edge = λ from number k c. all_append (IsOfOwner s.desk.me) (touch_events_of c row s) _ (of_touch c row s) (refl, tt);
   polled = λ answers. of_freed s.desk.me (free_slots answers);
   publish = of_publish row s;
 }

@@ -47,7 +47,7 @@ heard w c q [] = NotYet
 heard w c q (Made v to n a ∷ h) = cond (to == w) (hear c q (heard w c q h) a) (heard w c q h)
 heard w c q (e ∷ h) = heard w c q h
 
-hears_append : (c : List ℕ) (q : ℕ) (s : Wake) (xs ys : List AlertLine) → hears c q s (xs ++ ys) ≡ hears c q (hears c q s xs) ys
+pub hears_append : (c : List ℕ) (q : ℕ) (s : Wake) (xs ys : List AlertLine) → hears c q s (xs ++ ys) ≡ hears c q (hears c q s xs) ys
 hears_append c q s [] ys = refl
 hears_append c q s (x ∷ xs) ys = hears_append c q (hear c q s x) xs ys
 

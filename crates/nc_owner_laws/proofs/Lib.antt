@@ -40,3 +40,4 @@ pub mod SlotKeeping
 pub mod LeavingKept
 pub mod Counting
 pub mod RemovalKept
+pub mod Fences

@@ -3,7 +3,6 @@ use Rattle.std.proofs.Common.{◌≡◌, ℕ, List, [], ◌∷◌, ◌++◌, ref
 use Rattle.nc_types.specs.Message.{Message}
 use Rattle.nc_journal.specs.History.{onto}
 use Rattle.nc_journal.specs.declared.event.Event.{Event}
-use Rattle.nc_journal.specs.declared.event.Event.TheVariants.{Granted}
 use Rattle.nc_buffer.specs.Buffer.{is_expired}
 use Rattle.nc_slots.specs.declared.slot.Slot.{Slot}
 use Rattle.nc_owner.specs.declared.desk.Desk.{Desk}
@@ -20,6 +19,7 @@ use Rattle.nc_owner_laws.specs.Kinds.{IsOfOwner, AreOfOwner}
 use Rattle.nc_owner_laws.specs.Reaping.{Keeps, ReapKeeps, ReapHoldsFit}
 use Rattle.nc_owner_laws.specs.Weave.{weave}
 use Rattle.nc_owner_laws.proofs.Kept.{all_append}
+use Rattle.nc_owner_laws.proofs.Weaving.{weave_nothing}
 use Rattle.nc_owner_laws.proofs.Stamping as stamping
 use Rattle.nc_owner_laws.proofs.Stamping.{onto_append}
 use Rattle.nc_owner_laws.proofs.OwnerSteps as steps
@@ -27,11 +27,6 @@ use Rattle.nc_owner_laws.proofs.InOrder as order
 use Rattle.nc_owner_laws.proofs.AnsweredOnce as answers
 use Rattle.nc_owner_laws.proofs.EventKinds as kinds
 use Rattle.nc_owner_laws.proofs.ToldPolls.{left_fits, polled_fits}
-
-weave_nothing : (w : ℕ) (next : ℕ → ℕ) (es : List Event) → weave w next es [] ≡ es
-weave_nothing w next [] = refl
-weave_nothing w next (Granted v g slot to ∷ es) = ap (λ (l : List Event). Granted v g slot to ∷ l) (weave_nothing w next es)
-weave_nothing w next (e ∷ es) = ap (λ (l : List Event). e ∷ l) (weave_nothing w next es)
 
 -- no packet is made, so any numbers serve
 none_next : ℕ → ℕ

@@ -19,3 +19,9 @@ one_first w next e es alerts n = refl
 pub weave_first : (w : ℕ) (next : ℕ → ℕ) (xs es : List Event) (alerts : List OutLine) → AllByRecursion GrantsNot xs → weave w next (xs ++ es) alerts ≡ xs ++ weave w next es alerts
 weave_first w next [] es alerts n = refl
 weave_first w next (x ∷ xs) es alerts n = one_first w next x (xs ++ es) alerts n.0 ∙ ap (λ (l : List Event). x ∷ l) (weave_first w next xs es alerts n.1)
+
+-- where no alert is made the events stand alone
+pub weave_nothing : (w : ℕ) (next : ℕ → ℕ) (es : List Event) → weave w next es [] ≡ es
+weave_nothing w next [] = refl
+weave_nothing w next (Granted v g slot to ∷ es) = ap (λ (l : List Event). Granted v g slot to ∷ l) (weave_nothing w next es)
+weave_nothing w next (e ∷ es) = ap (λ (l : List Event). e ∷ l) (weave_nothing w next es)

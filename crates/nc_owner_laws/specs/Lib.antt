@@ -27,3 +27,4 @@ pub mod SlotRule
 pub mod LeavingKept
 pub mod Counted
 pub mod RemovalStands
+pub mod Fencing

@@ -8,6 +8,7 @@ mod answers;
 mod ascending;
 mod beside;
 mod counts;
+mod fencing;
 mod filters;
 mod holds;
 mod keeping;

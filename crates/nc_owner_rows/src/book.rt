@@ -10,7 +10,7 @@ use std::alloc::Global;
 
 /// What is printed, and the holds of a run of owner 0, whose alerts go to two workers.
 ///
-/// `asked` numbers the publishes and questions for information, `looks` the looks, and `made` the alerts to each worker.
+/// `asked` numbers the publishes and questions for information, `looks` the looks and edges, and `made` the alerts to each worker.
 #[derive(Drop)]
 pub struct Book {
     pub alloc: Global,
@@ -50,7 +50,7 @@ impl Book {
         number
     }
 
-    /// The number of the next look.
+    /// The number of the next look or edge.
     pub fn next_look(&mut self) -> u64 {
         let number = self.looks;
         self.looks = number.saturating_add(1);

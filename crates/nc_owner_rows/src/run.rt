@@ -73,15 +73,29 @@ impl Run {
         self.book.print_done(done)
     }
 
-    /// `look FROM CHANNEL AFTER`
+    /// `look FROM CHANNEL AFTER FENCE`, where a fence of 0 may be left out.
     fn look(&mut self, mut words: Words<'_>) -> Result<(), NoMemory> {
         let from = words.worker();
         let chan = words.name(self.book.alloc)?;
         let after = words.id();
+        let fence = words.fence();
         let number = self.book.next_look();
         let done = self
             .owner
-            .look(&mut self.pool, from, number, chan, after, 0)?;
+            .look(&mut self.pool, from, number, chan, after, fence)?;
+        self.book.print_done(done)
+    }
+
+    /// `edge FROM CHANNEL SUBSCRIBER FENCE`, where a fence of 0 may be left out.
+    fn edge(&mut self, mut words: Words<'_>) -> Result<(), NoMemory> {
+        let from = words.worker();
+        let chan = words.name(self.book.alloc)?;
+        let k = words.long();
+        let fence = words.fence();
+        let number = self.book.next_look();
+        let done = self
+            .owner
+            .edge(&mut self.pool, from, number, k, chan, fence)?;
         self.book.print_done(done)
     }
 
@@ -173,6 +187,7 @@ impl Run {
     fn ask(&mut self, word: &str, words: Words<'_>) -> Result<(), NoMemory> {
         match word {
             "look" => self.look(words),
+            "edge" => self.edge(words),
             "join" => self.join(words),
             "part" => self.part(words),
             "info" => self.info(words),

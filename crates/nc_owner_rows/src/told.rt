@@ -68,6 +68,9 @@ pub fn told(alert: Alert<PlainHold>) -> Option<(AlertLine, Option<(u64, PlainHol
             floor,
             found,
         } => Some(look_answer(no, q, floor, found)),
+        Alert::EdgeAnswer { no, q, floor, last } => {
+            Some((AlertLine::EdgeAnswer { no, q, floor, last }, None))
+        }
         Alert::Notice { c, found } => Some(notice(c, found)),
         Alert::InfoAnswer { r, status, info } => {
             let status = u64::from(status);

@@ -67,6 +67,14 @@ impl<'t> Words<'t> {
         MsgId { time, tag }
     }
 
+    /// The next word, a fence in seconds, which is 0 where there is none.
+    pub fn fence(&mut self) -> u64 {
+        if self.rest.is_empty() {
+            return 0;
+        }
+        self.long()
+    }
+
     /// The next word, a channel's name.
     pub fn name(&mut self, alloc: Global) -> Result<ChanName, NoMemory> {
         Ok(ChanName {

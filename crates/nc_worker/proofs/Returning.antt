@@ -12,6 +12,9 @@ use Rattle.nc_spool.specs.declared.fact.Fact.{Fact}
 use Rattle.nc_spool.specs.declared.fact.Fact.TheVariants as facts
 use Rattle.nc_spool.specs.Calls.{arrive_facts, answer_facts, edge_facts, notice_facts, gone_facts}
 use Rattle.nc_owner.specs.AlertLines.{OutLine}
+use Rattle.nc_owner.specs.Fence.{with_floor, raise_events}
+use Rattle.nc_owner.specs.Look.{look_events}
+use Rattle.nc_owner.specs.Edge.{edge_events}
 use Rattle.nc_owner.specs.Publish.{Polls}
 use Rattle.nc_owner.specs.Poll.{freed_events}
 use Rattle.nc_owner.specs.OtherSteps.{names_of, touch_events_of}
@@ -59,7 +62,12 @@ swept_so (c ∷ names) x all = swept_so names (swept x c) (all_append IsUnreleas
 
 line_so : (polls : Polls) (from : ℕ) (line : AlertLine) (s : Holding) → AreUnreleased (owned_by polls from line s).events
 line_so polls from (lines.Publish r c len timeout ct body) s = of_owners s.owner.desk.me _ ((owners_kinds s.row s.owner).publish from (order_of r c len timeout ct body) polls)
-line_so polls from (lines.Look number c after fence) s = of_owners s.owner.desk.me _ ((owners_kinds s.row s.owner).look from number c after)
+line_so polls from (lines.Look number c after fence) s =
+    all_append IsUnreleased (raise_events fence s.owner) (look_events from number c after s.row (with_floor fence s.owner))
+    (of_owners s.owner.desk.me _ ((owners_kinds s.row s.owner).raise fence)) (of_owners s.owner.desk.me _ ((owners_kinds s.row (with_floor fence s.owner)).look from number c after))
+line_so polls from (lines.Edge number k c fence) s =
+    all_append IsUnreleased (raise_events fence s.owner) (edge_events from number k c s.row (with_floor fence s.owner))
+    (of_owners s.owner.desk.me _ ((owners_kinds s.row s.owner).raise fence)) (of_owners s.owner.desk.me _ ((owners_kinds s.row (with_floor fence s.owner)).edge from number k c))
 line_so polls from (lines.Join c k) s = of_owners s.owner.desk.me _ ((owners_kinds s.row s.owner).join (member_of from k) c)
 line_so polls from (lines.Part c k) s = of_owners s.owner.desk.me _ ((owners_kinds s.row s.owner).part (member_of from k) c)
 line_so polls from (lines.Info r c) s = of_owners s.owner.desk.me _ ((owners_kinds s.row s.owner).touch c)

@@ -24,7 +24,7 @@ use nc_alert::{Alert, Packet};
 use nc_desk::release_idle;
 use nc_journal::{Event, EventList};
 use nc_outbox::kind_of;
-use nc_owned::{inform, join, look, part, publish, sweep};
+use nc_owned::{edge, inform, join, look, part, publish, sweep};
 use nc_owner::Order;
 use nc_slots::Slots;
 use nc_types::{Config, NoMemory};
@@ -68,7 +68,7 @@ fn hear<P: Slots>(
             no,
             c,
             after,
-            fence: _fence,
+            fence,
         } => {
             look(
                 &mut parts.owner,
@@ -78,6 +78,20 @@ fn hear<P: Slots>(
                 no,
                 c,
                 after,
+                fence,
+            )?;
+            Ok(())
+        }
+        Alert::Edge { no, k, c, fence } => {
+            edge(
+                &mut parts.owner,
+                pool,
+                &mut parts.scribe,
+                from,
+                no,
+                k,
+                c,
+                fence,
             )?;
             Ok(())
         }
@@ -133,7 +147,6 @@ fn hear<P: Slots>(
             parts.desk.gone(&mut parts.scribe, &c, &subs)?;
             Ok(())
         }
-        Alert::Edge { .. } => Ok(()),
         Alert::Delete { .. } => Ok(()),
     }
 }

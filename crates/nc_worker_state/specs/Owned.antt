@@ -14,6 +14,8 @@ use Rattle.nc_owner.specs.State.{OwnerAt}
 use Rattle.nc_owner.specs.Poll.{PollsOf, AnswersFit, freed_events}
 use Rattle.nc_owner.specs.Publish.{Polls, PublishPolls, publish_events, publish_alerts, publish_after, publish_row, publish_holds}
 use Rattle.nc_owner.specs.Look.{look_events, look_alerts, look_after, look_row, look_holds}
+use Rattle.nc_owner.specs.Fence.{with_floor, raise_events}
+use Rattle.nc_owner.specs.Edge.{edge_events, edge_alerts, edge_after}
 use Rattle.nc_owner.specs.OtherSteps.{touched_row, touch_events_of, touch_after, join_events, join_after, part_events, part_after, info_alerts, polled_after, polled_row, with_clock}
 use Rattle.nc_owner_laws.specs.HoldsKept.{told_polls, told_answers}
 use Rattle.nc_reaper.specs.Reap.{swept_all}
@@ -65,14 +67,25 @@ parted_by m c s = touched_by c (part_events m c s.row s.owner) [] (part_after m 
 abbrev pub informed_by : ℕ → ℕ → List ℕ → Holding → Owned
 informed_by from r c s = touched_by c (touch_events_of c s.row s.owner) (info_alerts from r c s.row s.owner) (touch_after c s.row s.owner) s
 
+abbrev pub edged_by : ℕ → ℕ → ℕ → List ℕ → Holding → Owned
+edged_by from number k c s = touched_by c (edge_events from number k c s.row s.owner) (edge_alerts from number c s.row s.owner) (edge_after c s.row s.owner) s
+
+-- a fence raises the floor before anything else
+abbrev pub fenced : ℕ → Holding → Holding
+fenced fence s = record s { owner = with_floor fence s.owner }
+
+abbrev pub behind_fence : ℕ → Holding → Owned → Owned
+behind_fence fence s o = record o { events = raise_events fence s.owner ++ o.events }
+
 -- nothing
 abbrev pub unowned : Holding → Owned
 unowned s = record { events = []; alerts = []; after = s }
 
--- what an owner does with an alert of a worker, by the answers of the polls of a publish. Fences, edges and deletions are none of its steps yet
+-- what an owner does with an alert of a worker, by the answers of the polls of a publish. A deletion is none of its steps yet
 abbrev pub owned_by : Polls → ℕ → AlertLine → Holding → Owned
 owned_by polls from (lines.Publish r c len timeout ct body) s = published_by from (order_of r c len timeout ct body) polls s
-owned_by polls from (lines.Look number c after fence) s = looked_by from number c after s
+owned_by polls from (lines.Look number c after fence) s = behind_fence fence s (looked_by from number c after (fenced fence s))
+owned_by polls from (lines.Edge number k c fence) s = behind_fence fence s (edged_by from number k c (fenced fence s))
 owned_by polls from (lines.Join c k) s = joined_by (member_of from k) c s
 owned_by polls from (lines.Part c k) s = parted_by (member_of from k) c s
 owned_by polls from (lines.Info r c) s = informed_by from r c s

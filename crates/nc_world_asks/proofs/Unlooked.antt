@@ -19,12 +19,15 @@ use Rattle.nc_owner.specs.State.{Bench, bench_of, opened, exists}
 use Rattle.nc_owner.specs.Leave.{left_event, leavers, touched}
 use Rattle.nc_owner.specs.Poll.{freed_event, freed_events, free_slots}
 use Rattle.nc_owner.specs.Publish.{Polls, Outcome, late, stored, full as is_all, notices, answer, stamp, stored_status, store_bench, granted_events, asked, roomy, roomy_events, stored_events, leaving, lowest_slot, post_events, post_alerts, cleared_events, publish_outcome, publish_cleared, info_of}
-use Rattle.nc_owner.specs.Look.{found_on, looked_event, found_events, found_line, look_ready}
+use Rattle.nc_owner.specs.Look.{found_on, looked_event, found_events, found_line, look_ready, look_events}
+use Rattle.nc_owner.specs.Fence.{raise_events}
+use Rattle.nc_owner.specs.Edge.{edge_events}
 use Rattle.nc_owner.specs.OtherSteps.{touch_events_of, touched_of, names_of}
+use Rattle.nc_owner_laws.proofs.Fences.{raise_are, edge_are}
 use Rattle.nc_reaper.specs.Reap.{Swept, state, swept, swept_all}
 use Rattle.nc_rests.specs.Asking.{HasAsk}
 use Rattle.nc_worker_state.specs.Incoming.{Incoming, TakesPacket, ClockReads, Reaps, Posts, Subscribes, Informs}
-use Rattle.nc_worker_state.specs.Owned.{Holding, StepPolls, owned_by, owned_in, order_of, member_of}
+use Rattle.nc_worker_state.specs.Owned.{Holding, StepPolls, fenced, owned_by, owned_in, order_of, member_of}
 use Rattle.nc_world_laws.proofs.Local.{all_append, all_of}
 
 -- ---- looks
@@ -79,6 +82,9 @@ less_parted : (w from k : ℕ) (c : List ℕ) (b : Bool) → AreUnlooked (cond b
 less_parted w from k c true = (tt, tt)
 less_parted w from k c false = tt
 
+less_edge : (from number k : ℕ) (c : List ℕ) (s : Holding) → AreUnlooked (edge_events from number k c s.row s.owner)
+less_edge from number k c s = edge_are IsUnlooked from number k c s.row s.owner (less_touch c s) tt
+
 -- each look is one that its worker asked for
 abbrev pub IsAskedFor : ℕ → List Event → Event → Type 0
 IsAskedFor w asks (Looked v q from number c after floor found) = from ≡ w → HasAsk number c after asks
@@ -105,21 +111,28 @@ module _ (w : ℕ) (asks : List Event) where
   looks_found from number c id None d ask = (ask, tt)
   looks_found from number c id (Some e) d ask = (ask, (tt, tt))
 
-  looks_line : (polls : Polls) (from : ℕ) (line : AlertLine) (s : Holding) → LineAsks w asks from line → AllByRecursion (IsAskedFor w asks) (owned_by polls from line s).events
-  looks_line polls from (lines.Publish r c len timeout ct body) s ask = plains _ (less_publish polls from (order_of r c len timeout ct body) s)
-  looks_line polls from (lines.Look number c after fence) s ask =
+  looks_look : (from number : ℕ) (c : List ℕ) (id : Id) (s : Holding) → (from ≡ w → HasAsk number c id asks) → AllByRecursion (IsAskedFor w asks) (look_events from number c id s.row s.owner)
+  looks_look from number c id s ask =
       let b = bench_of c s.row s.owner in
       let spends = map (left_event s.owner.desk.me c Spent) (leavers is_spent (touched b)) in
       all_append (IsAskedFor w asks) (touch_events_of c s.row s.owner ++ spends) _
       (plains (touch_events_of c s.row s.owner ++ spends) (all_append IsUnlooked (touch_events_of c s.row s.owner) spends (less_touch c s) (less_left s.owner.desk.me c Spent (leavers is_spent (touched b)))))
-      (looks_found from number c after (found_on after (look_ready c s.row s.owner)) (look_ready c s.row s.owner).desk ask)
+      (looks_found from number c id (found_on id (look_ready c s.row s.owner)) (look_ready c s.row s.owner).desk ask)
+
+  -- a fence asks for no look
+  looks_behind : (fence : ℕ) (s : Holding) (es : List Event) → AllByRecursion (IsAskedFor w asks) es → AllByRecursion (IsAskedFor w asks) (raise_events fence s.owner ++ es)
+  looks_behind fence s es k = all_append (IsAskedFor w asks) (raise_events fence s.owner) es (raise_are (IsAskedFor w asks) fence s.owner tt) k
+
+  looks_line : (polls : Polls) (from : ℕ) (line : AlertLine) (s : Holding) → LineAsks w asks from line → AllByRecursion (IsAskedFor w asks) (owned_by polls from line s).events
+  looks_line polls from (lines.Publish r c len timeout ct body) s ask = plains _ (less_publish polls from (order_of r c len timeout ct body) s)
+  looks_line polls from (lines.Look number c after fence) s ask = looks_behind fence s _ (looks_look from number c after (fenced fence s) ask)
   looks_line polls from (lines.Info r c) s ask = plains _ (less_touch c s)
   looks_line polls from (lines.Join c k) s ask = plains _ (all_append IsUnlooked (touch_events_of c s.row s.owner) _ (less_touch c s) (tt, tt))
   looks_line polls from (lines.Part c k) s ask = plains _ (all_append IsUnlooked (touch_events_of c s.row s.owner) _ (less_touch c s) (less_parted s.owner.desk.me from k c (has_member (member_of from k) (opened c s.owner).members)))
   looks_line polls from (lines.PubAnswer r status info full) s ask = tt
   looks_line polls from (lines.LookAnswer number q floor found g slot) s ask = tt
   looks_line polls from (lines.Notice c id g slot) s ask = tt
-  looks_line polls from (lines.Edge number k c fence) s ask = tt
+  looks_line polls from (lines.Edge number k c fence) s ask = looks_behind fence s _ (plains _ (less_edge from number k c (fenced fence s)))
   looks_line polls from (lines.EdgeAnswer number q floor last) s ask = tt
   looks_line polls from (lines.Delete r c) s ask = tt
   looks_line polls from (lines.DelAnswer r status info) s ask = tt
@@ -172,14 +185,14 @@ unasking_info r false info = tt
 
 unasking_line : (polls : Polls) (from : ℕ) (line : AlertLine) (s : Holding) → AreUnasking (owned_by polls from line s).alerts
 unasking_line polls from (lines.Publish r c len timeout ct body) s = let o = order_of r c len timeout ct body in unasking_post (publish_outcome o polls s.row s.owner) from o polls (publish_cleared o polls s.row s.owner)
-unasking_line polls from (lines.Look number c after fence) s = (unasking_found from number (found_on after (look_ready c s.row s.owner)) (look_ready c s.row s.owner).desk, tt)
+unasking_line polls from (lines.Look number c after fence) s = let b = look_ready c s.row (fenced fence s).owner in (unasking_found from number (found_on after b) b.desk, tt)
 unasking_line polls from (lines.Info r c) s = (unasking_info r (exists c s.owner) (Some (info_of (touched_of c s.row s.owner).channel)), tt)
 unasking_line polls from (lines.Join c k) s = tt
 unasking_line polls from (lines.Part c k) s = tt
 unasking_line polls from (lines.PubAnswer r status info full) s = tt
 unasking_line polls from (lines.LookAnswer number q floor found g slot) s = tt
 unasking_line polls from (lines.Notice c id g slot) s = tt
-unasking_line polls from (lines.Edge number k c fence) s = tt
+unasking_line polls from (lines.Edge number k c fence) s = (tt, tt)
 unasking_line polls from (lines.EdgeAnswer number q floor last) s = tt
 unasking_line polls from (lines.Delete r c) s = tt
 unasking_line polls from (lines.DelAnswer r status info) s = tt

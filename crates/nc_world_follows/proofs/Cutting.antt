@@ -99,6 +99,7 @@ module _ (setup : Setup) (is : IsSetup setup) (h : List Event) (world : World) (
     step_of : (from n : ℕ) (line : AlertLine) → IsStepOf setup w from n line h (rest setup w (TakesPacket from (packet n line)) world)
     step_of from n (lines.Publish r c len timeout ct body) = owners_step w (TakesPacket from (packet n (lines.Publish r c len timeout ct body))) _ (unreleased w _ _)
     step_of from n (lines.Look number c after fence) = owners_step w (TakesPacket from (packet n (lines.Look number c after fence))) _ (unreleased w _ _)
+    step_of from n (lines.Edge number k c fence) = owners_step w (TakesPacket from (packet n (lines.Edge number k c fence))) _ (unreleased w _ _)
     step_of from n (lines.Join c k) = owners_step w (TakesPacket from (packet n (lines.Join c k))) _ (unreleased w _ _)
     step_of from n (lines.Part c k) = owners_step w (TakesPacket from (packet n (lines.Part c k))) _ (unreleased w _ _)
     step_of from n (lines.Info r c) = owners_step w (TakesPacket from (packet n (lines.Info r c))) _ (unreleased w _ _)
@@ -106,7 +107,6 @@ module _ (setup : Setup) (is : IsSetup setup) (h : List Event) (world : World) (
     step_of from n (lines.LookAnswer number q floor found g slot) = others_step (TakesPacket from (packet n (lines.LookAnswer number q floor found g slot))) (world.workers w).next
     step_of from n (lines.Notice c id g slot) = others_step (TakesPacket from (packet n (lines.Notice c id g slot))) (world.workers w).next
     step_of from n (lines.InfoAnswer r status info) = others_step (TakesPacket from (packet n (lines.InfoAnswer r status info))) (world.workers w).next
-    step_of from n (lines.Edge number k c fence) = others_step (TakesPacket from (packet n (lines.Edge number k c fence))) (world.workers w).next
     step_of from n (lines.EdgeAnswer number q floor last) = others_step (TakesPacket from (packet n (lines.EdgeAnswer number q floor last))) (world.workers w).next
     step_of from n (lines.Delete r c) = others_step (TakesPacket from (packet n (lines.Delete r c))) (world.workers w).next
     step_of from n (lines.DelAnswer r status info) = others_step (TakesPacket from (packet n (lines.DelAnswer r status info))) (world.workers w).next

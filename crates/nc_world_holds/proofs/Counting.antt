@@ -24,16 +24,19 @@ use Rattle.nc_owner.specs.Members.{has_member}
 use Rattle.nc_owner.specs.Poll.{freed_event, free_slots}
 use Rattle.nc_owner.specs.Publish.{Polls, Outcome, late, full, stored, granted_events, one_hold, asked, roomy, roomy_events, stored_events, leaving, lowest_slot, post_events, post_holds, publish_outcome, publish_cleared, cleared_events}
 use Rattle.nc_owner.specs.Look.{found_on, looked_event, found_events, found_holds, look_ready}
-use Rattle.nc_owner.specs.OtherSteps.{touch_events_of, parted_events, names_of}
+use Rattle.nc_owner.specs.Fence.{raise_events}
+use Rattle.nc_owner.specs.Edge.{edged_event}
+use Rattle.nc_owner.specs.OtherSteps.{touch_events_of, touch_after, parted_events, names_of}
 use Rattle.nc_owner_laws.specs.HoldsKept.{one_less}
 use Rattle.nc_owner_laws.specs.Kinds.{IsOfOwner}
 use Rattle.nc_owner_laws.specs.Weave.{weave, makes, numbered}
+use Rattle.nc_owner_laws.proofs.Fences.{raised_so}
 use Rattle.nc_reaper.specs.Reap.{swept_all, swept, Swept}
 use Rattle.nc_history.specs.Packets.{Packet}
 use Rattle.nc_worker_state.specs.Setup.{Setup}
 use Rattle.nc_worker_state.specs.Incoming.{Incoming, TakesPacket, ClockReads, Reaps, Posts, Subscribes, Informs}
 use Rattle.nc_worker_state.specs.Deed.{Deed, Does, Makes, told, next_after}
-use Rattle.nc_worker_state.specs.Owned.{Holding, StepPolls, order_of, owned_in, owned_by, step_polls}
+use Rattle.nc_worker_state.specs.Owned.{Holding, Owned, StepPolls, order_of, looked_by, edged_by, fenced, behind_fence, owned_in, owned_by, step_polls}
 use Rattle.nc_worker_state.specs.Desk.{Desk, opening}
 use Rattle.nc_worker_state.specs.Worker.{with_at, given_back, holding}
 use Rattle.nc_world.specs.World.{World, seat, handled_events, handled, pending_in, new_world}
@@ -186,15 +189,29 @@ module _ (me k : ℕ) where
       let mine : (d.me == me) ≡ true = ap (λ n. n == me) is ∙ self me in
       record { long = same_length counts e.slot (slice_index counts e.slot + 1); each = λ lt. omega (arith, more_at counts e.slot k lt, one_granted (d.me == me) (e.slot == k) 0 mine) }
 
-  asked_adds : (polls : Polls) (from : ℕ) (line : AlertLine) (s : Holding) → s.owner.desk.me ≡ me → Adds s.counts (owned_by polls from line s).after.counts (owned_by polls from line s).events
-  asked_adds polls from (lines.Publish r c len timeout ct body) s is = publish_adds from (order_of r c len timeout ct body) polls s is
-  asked_adds polls from (lines.Look number c after fence) s is =
+  look_adds : (from number : ℕ) (c : List ℕ) (after : Id) (s : Holding) → s.owner.desk.me ≡ me → Adds s.counts (looked_by from number c after s).after.counts (looked_by from number c after s).events
+  look_adds from number c after s is =
       let ready = look_ready c s.row s.owner in
       let told : List Event = looked_event from number c after (found_on after ready) ready.desk ∷ found_events from (found_on after ready) ready.desk in
       adds_same s.counts _ told (touch_events_of c s.row s.owner ++ spend_events c (touched (bench_of c s.row s.owner)) ++ told)
       (behind_none (touch_events_of c s.row s.owner ++ spend_events c (touched (bench_of c s.row s.owner))) told (Grants told)
       (behind_none (touch_events_of c s.row s.owner) (spend_events c (touched (bench_of c s.row s.owner))) 0 (none_touched c s) (none_left s.owner.desk.me c Spent (leavers is_spent (touched (bench_of c s.row s.owner))))) refl)
       (found_adds from number c after (found_on after ready) ready.desk s.counts is)
+
+  edge_adds : (from number n : ℕ) (c : List ℕ) (s : Holding) → Adds s.counts s.counts (edged_by from number n c s).events
+  edge_adds from number n c s = adds_none s.counts _ (behind_none (touch_events_of c s.row s.owner) (edged_event from number n c (touch_after c s.row s.owner) ∷ []) 0 (none_touched c s) refl)
+
+  -- a fence grants nothing
+  none_raised : (fence : ℕ) (s : Holding) → Grants (raise_events fence s.owner) ≡ 0
+  none_raised fence s = raised_so (λ es x. Grants es ≡ 0) fence s.owner refl (λ lt. refl)
+
+  fenced_adds : (fence : ℕ) (s : Holding) (o : Owned) → Adds s.counts o.after.counts o.events → Adds s.counts (behind_fence fence s o).after.counts (behind_fence fence s o).events
+  fenced_adds fence s o a = adds_same s.counts o.after.counts o.events (behind_fence fence s o).events (behind_none (raise_events fence s.owner) o.events (Grants o.events) (none_raised fence s) refl) a
+
+  asked_adds : (polls : Polls) (from : ℕ) (line : AlertLine) (s : Holding) → s.owner.desk.me ≡ me → Adds s.counts (owned_by polls from line s).after.counts (owned_by polls from line s).events
+  asked_adds polls from (lines.Publish r c len timeout ct body) s is = publish_adds from (order_of r c len timeout ct body) polls s is
+  asked_adds polls from (lines.Look number c after fence) s is = fenced_adds fence s (looked_by from number c after (fenced fence s)) (look_adds from number c after (fenced fence s) is)
+  asked_adds polls from (lines.Edge number n c fence) s is = fenced_adds fence s (edged_by from number n c (fenced fence s)) (edge_adds from number n c (fenced fence s))
   asked_adds polls from (lines.Join c n) s is = adds_none s.counts _ (behind_none (touch_events_of c s.row s.owner) (Joined s.owner.desk.me c from n ∷ []) 0 (none_touched c s) refl)
   asked_adds polls from (lines.Part c n) s is =
       let m : Member = record { from = from; k = n } in
@@ -203,7 +220,6 @@ module _ (me k : ℕ) where
   asked_adds polls from (lines.PubAnswer r status info usage) s is = adds_none s.counts [] refl
   asked_adds polls from (lines.LookAnswer number q floor found g slot) s is = adds_none s.counts [] refl
   asked_adds polls from (lines.Notice c id g slot) s is = adds_none s.counts [] refl
-  asked_adds polls from (lines.Edge number n c fence) s is = adds_none s.counts [] refl
   asked_adds polls from (lines.EdgeAnswer number q floor last) s is = adds_none s.counts [] refl
   asked_adds polls from (lines.Delete r c) s is = adds_none s.counts [] refl
   asked_adds polls from (lines.DelAnswer r status info) s is = adds_none s.counts [] refl

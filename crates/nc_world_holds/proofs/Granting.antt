@@ -23,13 +23,16 @@ use Rattle.nc_owner.specs.Members.{has_member}
 use Rattle.nc_owner.specs.Poll.{freed_event, free_slots}
 use Rattle.nc_owner.specs.Publish.{Polls, Outcome, late, full, stored, notices, granted_events, answer, asked, roomy, roomy_events, stored_events, leaving, stamp, lowest_slot, stored_status, info_of, store_bench, post_events, post_alerts, publish_outcome, publish_cleared, cleared_events}
 use Rattle.nc_owner.specs.Look.{found_on, looked_event, found_events, found_line, look_ready}
-use Rattle.nc_owner.specs.OtherSteps.{touch_events_of, touched_of, parted_events, names_of}
+use Rattle.nc_owner.specs.Fence.{raise_events}
+use Rattle.nc_owner.specs.Edge.{edged_event, edge_line}
+use Rattle.nc_owner.specs.OtherSteps.{touch_events_of, touch_after, touched_of, parted_events, names_of}
 use Rattle.nc_owner_laws.specs.Kinds.{IsOfOwner}
 use Rattle.nc_owner_laws.specs.Weave.{weave, makes, numbered}
+use Rattle.nc_owner_laws.proofs.Fences.{raised_so}
 use Rattle.nc_reaper.specs.Reap.{swept_all, swept, Swept}
 use Rattle.nc_history.specs.Packets.{Packet, packet, lines_of}
 use Rattle.nc_worker_state.specs.Incoming.{Incoming, TakesPacket, ClockReads, Reaps, Posts, Subscribes, Informs}
-use Rattle.nc_worker_state.specs.Owned.{Holding, Owned, StepPolls, order_of, owned_in, owned_by}
+use Rattle.nc_worker_state.specs.Owned.{Holding, Owned, StepPolls, order_of, looked_by, edged_by, fenced, behind_fence, owned_in, owned_by}
 use Rattle.nc_worker_state.specs.Worker.{sent_to}
 use Rattle.nc_world_holds.specs.Balance.{one_if, carries, carried_by}
 
@@ -135,13 +138,29 @@ module _ (test : ℕ → ℕ → Bool) (x : ℕ) where
   info_plain true r info = refl
   info_plain false r info = refl
 
-  asked_matches : (polls : Polls) (from : ℕ) (line : AlertLine) (s : Holding) → Matches (owned_by polls from line s).events (owned_by polls from line s).alerts
-  asked_matches polls from (lines.Publish r c len timeout ct body) s = publish_matches from (order_of r c len timeout ct body) polls s
-  asked_matches polls from (lines.Look number c after fence) s =
+  look_matches : (from number : ℕ) (c : List ℕ) (after : Id) (s : Holding) → Matches (looked_by from number c after s).events (looked_by from number c after s).alerts
+  look_matches from number c after s =
       let ready = look_ready c s.row s.owner in
       let told : List Event = looked_event from number c after (found_on after ready) ready.desk ∷ found_events from (found_on after ready) ready.desk in
       found_matches from number c after (found_on after ready) ready.desk
       ∙ sym (behind_none (touch_events_of c s.row s.owner ++ spend_events c (touched (bench_of c s.row s.owner))) told (grants_to told) (behind_none (touch_events_of c s.row s.owner) (spend_events c (touched (bench_of c s.row s.owner))) 0 (none_touched c s) (none_left s.owner.desk.me c Spent (leavers is_spent (touched (bench_of c s.row s.owner))))) refl)
+
+  edge_matches : (from number k : ℕ) (c : List ℕ) (s : Holding) → Matches (edged_by from number k c s).events (edged_by from number k c s).alerts
+  edge_matches from number k c s =
+      let after = touch_after c s.row s.owner in
+      plain (edge_line from number c after) refl ∙ sym (behind_none (touch_events_of c s.row s.owner) (edged_event from number k c after ∷ []) 0 (none_touched c s) refl)
+
+  -- a fence grants nothing
+  none_raised : (fence : ℕ) (s : Holding) → grants_to (raise_events fence s.owner) ≡ 0
+  none_raised fence s = raised_so (λ es x. grants_to es ≡ 0) fence s.owner refl (λ lt. refl)
+
+  fenced_matches : (fence : ℕ) (s : Holding) (o : Owned) → Matches o.events o.alerts → Matches (behind_fence fence s o).events (behind_fence fence s o).alerts
+  fenced_matches fence s o m = m ∙ sym (behind_none (raise_events fence s.owner) o.events (grants_to o.events) (none_raised fence s) refl)
+
+  asked_matches : (polls : Polls) (from : ℕ) (line : AlertLine) (s : Holding) → Matches (owned_by polls from line s).events (owned_by polls from line s).alerts
+  asked_matches polls from (lines.Publish r c len timeout ct body) s = publish_matches from (order_of r c len timeout ct body) polls s
+  asked_matches polls from (lines.Look number c after fence) s = fenced_matches fence s (looked_by from number c after (fenced fence s)) (look_matches from number c after (fenced fence s))
+  asked_matches polls from (lines.Edge number k c fence) s = fenced_matches fence s (edged_by from number k c (fenced fence s)) (edge_matches from number k c (fenced fence s))
   asked_matches polls from (lines.Join c k) s = sym (behind_none (touch_events_of c s.row s.owner) (Joined s.owner.desk.me c from k ∷ []) 0 (none_touched c s) refl)
   asked_matches polls from (lines.Part c k) s =
       let m : Member = record { from = from; k = k } in
@@ -150,7 +169,6 @@ module _ (test : ℕ → ℕ → Bool) (x : ℕ) where
   asked_matches polls from (lines.PubAnswer r status info usage) s = refl
   asked_matches polls from (lines.LookAnswer number q floor found g slot) s = refl
   asked_matches polls from (lines.Notice c id g slot) s = refl
-  asked_matches polls from (lines.Edge number k c fence) s = refl
   asked_matches polls from (lines.EdgeAnswer number q floor last) s = refl
   asked_matches polls from (lines.Delete r c) s = refl
   asked_matches polls from (lines.DelAnswer r status info) s = refl

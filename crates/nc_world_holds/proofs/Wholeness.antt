@@ -16,6 +16,7 @@ use Rattle.nc_owner.specs.AlertLines.{OutLine}
 use Rattle.nc_owner.specs.State.{Bench, exists}
 use Rattle.nc_owner.specs.Publish.{Polls, Outcome, late, full, stored, notices, asked, roomy, stamp, lowest_slot, post_alerts, publish_outcome, publish_cleared}
 use Rattle.nc_owner.specs.Look.{found_on, found_line, look_ready}
+use Rattle.nc_owner.specs.Fence.{with_floor}
 use Rattle.nc_owner_laws.specs.Kinds.{IsOfOwner}
 use Rattle.nc_history.specs.Packets.{Packet, packet, pending}
 use Rattle.nc_worker_state.specs.Setup.{Setup}
@@ -55,14 +56,14 @@ info_whole false r info = tt
 
 asked_whole : (polls : Polls) (from : ℕ) (line : AlertLine) (s : Holding) → AllByRecursion IsWholeOut (owned_by polls from line s).alerts
 asked_whole polls from (lines.Publish r c len timeout ct body) s = let o = order_of r c len timeout ct body in post_whole (publish_outcome o polls s.row s.owner) from o polls (publish_cleared o polls s.row s.owner)
-asked_whole polls from (lines.Look number c after fence) s = found_whole from number (found_on after (look_ready c s.row s.owner)) (look_ready c s.row s.owner).desk
+asked_whole polls from (lines.Look number c after fence) s = let ready = look_ready c s.row (with_floor fence s.owner) in found_whole from number (found_on after ready) ready.desk
+asked_whole polls from (lines.Edge number k c fence) s = (tt, tt)
 asked_whole polls from (lines.Join c k) s = tt
 asked_whole polls from (lines.Part c k) s = tt
 asked_whole polls from (lines.Info r c) s = (info_whole (exists c s.owner) r _, tt)
 asked_whole polls from (lines.PubAnswer r status info usage) s = tt
 asked_whole polls from (lines.LookAnswer number q floor found g slot) s = tt
 asked_whole polls from (lines.Notice c id g slot) s = tt
-asked_whole polls from (lines.Edge number k c fence) s = tt
 asked_whole polls from (lines.EdgeAnswer number q floor last) s = tt
 asked_whole polls from (lines.Delete r c) s = tt
 asked_whole polls from (lines.DelAnswer r status info) s = tt

@@ -13,3 +13,5 @@ pub mod Moving
 pub mod Themes
 pub mod WorldThemes
 pub mod Frames
+pub mod Fenced
+pub mod Touching

@@ -16,6 +16,7 @@ use Rattle.nc_owner.specs.AlertLines.{OutLine}
 use Rattle.nc_owner.specs.Poll.{freed_events}
 use Rattle.nc_owner.specs.OtherSteps.{touched_of, touch_events_of, names_of}
 use Rattle.nc_owner.specs.Look.{found_on, found_line, look_ready}
+use Rattle.nc_owner.specs.Fence.{with_floor, raise_events}
 use Rattle.nc_owner.specs.Publish.{Polls, Outcome, late, stored, full as is_all, notices, answer, asked, roomy, stamp, lowest_slot, stored_status, info_of, store_bench, post_alerts, publish_outcome, publish_cleared}
 use Rattle.nc_reaper.specs.Reap.{Swept, state, swept, swept_all}
 use Rattle.nc_owner_laws.specs.Kinds.{IsOfOwner, AreOfOwner}
@@ -33,14 +34,14 @@ module _ (me : ℕ) where
 
   of_line : (polls : Polls) (from : ℕ) (line : AlertLine) (s : Holding) → AreOfOwner s.owner.desk.me (owned_by polls from line s).events
   of_line polls from (lines.Publish r c len timeout ct body) s = (owners_kinds s.row s.owner).publish from (order_of r c len timeout ct body) polls
-  of_line polls from (lines.Look number c after fence) s = (owners_kinds s.row s.owner).look from number c after
+  of_line polls from (lines.Look number c after fence) s = all_append (IsOfOwner s.owner.desk.me) (raise_events fence s.owner) _ ((owners_kinds s.row s.owner).raise fence) ((owners_kinds s.row (with_floor fence s.owner)).look from number c after)
+  of_line polls from (lines.Edge number k c fence) s = all_append (IsOfOwner s.owner.desk.me) (raise_events fence s.owner) _ ((owners_kinds s.row s.owner).raise fence) ((owners_kinds s.row (with_floor fence s.owner)).edge from number k c)
   of_line polls from (lines.Join c k) s = (owners_kinds s.row s.owner).join (member_of from k) c
   of_line polls from (lines.Part c k) s = (owners_kinds s.row s.owner).part (member_of from k) c
   of_line polls from (lines.Info r c) s = (owners_kinds s.row s.owner).touch c
   of_line polls from (lines.PubAnswer r status info full) s = tt
   of_line polls from (lines.LookAnswer number q floor found g slot) s = tt
   of_line polls from (lines.Notice c id g slot) s = tt
-  of_line polls from (lines.Edge number k c fence) s = tt
   of_line polls from (lines.EdgeAnswer number q floor last) s = tt
   of_line polls from (lines.Delete r c) s = tt
   of_line polls from (lines.DelAnswer r status info) s = tt
@@ -97,14 +98,14 @@ module _ (workers : ℕ) where
 
   right_line : (polls : Polls) (from : ℕ) (line : AlertLine) (s : Holding) → AreRight workers (owned_by polls from line s).alerts
   right_line polls from (lines.Publish r c len timeout ct body) s = let o = order_of r c len timeout ct body in right_post (publish_outcome o polls s.row s.owner) from o polls (publish_cleared o polls s.row s.owner)
-  right_line polls from (lines.Look number c after fence) s = (right_found from number (found_on after (look_ready c s.row s.owner)) (look_ready c s.row s.owner).desk, tt)
+  right_line polls from (lines.Look number c after fence) s = let b = look_ready c s.row (with_floor fence s.owner) in (right_found from number (found_on after b) b.desk, tt)
+  right_line polls from (lines.Edge number k c fence) s = (tt, tt)
   right_line polls from (lines.Join c k) s = tt
   right_line polls from (lines.Part c k) s = tt
   right_line polls from (lines.Info r c) s = (right_info from r (exists c s.owner) (Some (info_of (touched_of c s.row s.owner).channel)), tt)
   right_line polls from (lines.PubAnswer r status info full) s = tt
   right_line polls from (lines.LookAnswer number q floor found g slot) s = tt
   right_line polls from (lines.Notice c id g slot) s = tt
-  right_line polls from (lines.Edge number k c fence) s = tt
   right_line polls from (lines.EdgeAnswer number q floor last) s = tt
   right_line polls from (lines.Delete r c) s = tt
   right_line polls from (lines.DelAnswer r status info) s = tt

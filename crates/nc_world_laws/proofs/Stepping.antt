@@ -1,9 +1,11 @@
 -- A theme of owners over one step of its worker: what opens the step, the owner's part, and the rest.
 use Rattle.std.proofs.Common.{◌≡◌, ℕ, ◌<◌, true, List, [], ◌∷◌, ◌++◌, sym, ap, ◌∙◌, subst, fold}
+use Rattle.nc_types.specs.Id.{Id}
+use Rattle.nc_types.specs.Channel.{owner_of}
 use Rattle.nc_types.specs.Message.{Message}
 use Rattle.nc_journal.specs.History.{onto}
 use Rattle.nc_journal.specs.declared.event.Event.{Event}
-use Rattle.nc_journal.specs.declared.event.Event.TheVariants.{Clock, Made}
+use Rattle.nc_journal.specs.declared.event.Event.TheVariants.{Clock, Raised, Edged, Made}
 use Rattle.nc_journal.specs.declared.alert.AlertLine.{AlertLine}
 use Rattle.nc_journal.specs.declared.alert.AlertLine.TheVariants as lines
 use Rattle.nc_slots.specs.declared.slot.Slot.{Slot}
@@ -13,6 +15,8 @@ use Rattle.nc_owner.specs.State.{OwnerAt}
 use Rattle.nc_owner.specs.Poll.{freed_events}
 use Rattle.nc_owner.specs.Publish.{publish_events, publish_alerts, publish_row, publish_after}
 use Rattle.nc_owner.specs.Look.{look_events, look_alerts, look_row, look_after}
+use Rattle.nc_owner.specs.Fence.{with_floor, raise_events}
+use Rattle.nc_owner.specs.Edge.{last_in, edged}
 use Rattle.nc_owner.specs.OtherSteps.{touch_events_of, touched_row, touch_after, join_events, join_after, part_events, part_after, info_alerts, polled_events, polled_row, polled_after, with_clock, names_of}
 use Rattle.nc_reaper.specs.Reap.{Swept, state, swept, swept_all}
 use Rattle.nc_owner_laws.specs.Aside.{IsAside}
@@ -30,10 +34,11 @@ use Rattle.nc_owner_laws.proofs.AnsweredOnce as answers
 use Rattle.nc_owner_laws.proofs.Aside as beside
 use Rattle.nc_owner_laws.proofs.HoldsKept as holding_laws
 use Rattle.nc_owner_laws.proofs.ToldPolls.{told_are_polls, slots_told}
+use Rattle.nc_owner_laws.proofs.Fences.{raise_keeps, edge_keeps, raised_so, onto_raised, onto_edge}
 use Rattle.nc_worker_state.specs.Setup.{Setup}
 use Rattle.nc_worker_state.specs.Incoming.{Incoming, TakesPacket, ClockReads, Reaps, Posts, Subscribes, Informs}
 use Rattle.nc_worker_state.specs.Deed.{Deed, Does, Makes, told}
-use Rattle.nc_worker_state.specs.Owned.{Holding, Owned, owned, owned_by, line_polls, order_of, member_of}
+use Rattle.nc_worker_state.specs.Owned.{Holding, Owned, owned, owned_by, looked_by, edged_by, fenced, behind_fence, line_polls, order_of, member_of}
 use Rattle.nc_worker_state.specs.Desk.{Desk, opening}
 use Rattle.nc_worker_state.specs.Worker.{woven}
 use Rattle.nc_owner_laws.proofs.Stamping.{onto_append}
@@ -42,6 +47,7 @@ use Rattle.nc_world_laws.specs.Kinds.{IsBy, AreDeeds}
 use Rattle.nc_world_laws.specs.OwnerTheme.{OwnerFact, StepBase, StepsKeep, IsOwnerTheme}
 use Rattle.nc_world_laws.proofs.Local.{eqb_self}
 use Rattle.nc_world_laws.proofs.Telling.{weave_nothing, by_worker, aside_worker, plain_asked}
+use Rattle.nc_world_laws.proofs.Touching.{touched_once}
 
 -- an owner has its worker's number
 pub is_me : (me workers slots first : ℕ) (row : List (Slot Message)) (h : List Event) (s : OwnerAt) → Stands me workers slots first row h s → s.desk.me ≡ me
@@ -83,6 +89,8 @@ module _ (setup : Setup) (me : ℕ) where
     keeps_steps = record {
       aside = λ e p by. aside_keeps row h s e p by base.keeps;
       clock = λ now. subst (λ (w : ℕ). KeepsFact row (Clock w now ∷ h) (with_clock now s)) is (record { stands = stand.clock now; ordered = in_order.clock now; new_answers = new.clock now });
+      raise = λ fence lt. raise_keeps me setup.workers setup.slots setup.first fence row h s lt base.keeps;
+      edge = λ from number k c owns there swept. edge_keeps me setup.workers setup.slots setup.first from number k (next from) c row h s base.keeps;
       join = λ m c owns there. mine (touched_row c row s) (join_after m c row s) (join_events m c row s) [] (record { stands = stand.join m c; ordered = in_order.join m c; new_answers = new.join m c });
       part = λ m c owns there. mine (touched_row c row s) (part_after m c row s) (part_events m c row s) [] (record { stands = stand.part m c; ordered = in_order.part m c; new_answers = new.part m c });
       info = λ from r c owns there. mine (touched_row c row s) (touch_after c row s) (touch_events_of c row s) (info_alerts from r c row s) (record { stands = stand.info from r c; ordered = in_order.info from r c; new_answers = new.info from r c });
@@ -123,9 +131,13 @@ module _ (setup : Setup) (me : ℕ) where
     told_themed row counts s next (Does e ∷ deeds) h d t = told_themed row counts s next deeds (e ∷ h) d.1 (aside_themed row counts h s e (aside_worker me e d.0) (by_worker me e d.0) t)
     told_themed row counts s next (Makes to a ∷ deeds) h d t = told_themed row counts s (numbered next to) deeds (Made me to (next to) a ∷ h) d.1 (aside_themed row counts h s (Made me to (next to) a) (plain_asked setup.workers to a d.0) (eqb_self me) t)
 
+    -- a theme behind what an owner does with an alert
+    abbrev After : (ℕ → ℕ) → List Event → Owned → Type 0
+    After next h o = Themed o.after.row o.after.counts (onto (woven me next o) h) o.after.owner
+
     module _ (next : ℕ → ℕ) (h : List Event) (s : Holding) (t : Themed s.row s.counts h s.owner) where
-      abbrev After : Owned → Type 0
-      After o = Themed o.after.row o.after.counts (onto (woven me next o) h) o.after.owner
+      here : s.owner.desk.me ≡ me
+      here = is_me me setup.workers setup.slots setup.first s.row h s.owner t.base.keeps.stands
 
       kept : StepsKeep setup me KeepsFact next s.row s.counts h s.owner
       kept = keeps_steps next s.row s.counts h s.owner t.base
@@ -136,20 +148,57 @@ module _ (setup : Setup) (me : ℕ) where
       facts : StepsKeep setup me P next s.row s.counts h s.owner
       facts = theme.step next s.row s.counts h s.owner t.base t.fact
 
-      line_themed : (from : ℕ) (line : AlertLine) → from < setup.workers → IsLineTo setup.workers me line → After (owned_by (line_polls line s) from line s)
+      -- a fence raises the floor, or leaves all as it is
+      raised_themed : (fence : ℕ) → Themed s.row s.counts (onto (raise_events fence s.owner) h) (with_floor fence s.owner)
+      raised_themed fence = raised_so (λ es x. Themed s.row s.counts (onto es h) x) fence s.owner t (λ lt.
+          subst (λ (w : ℕ). Themed s.row s.counts (Raised w fence ∷ h) (with_floor fence s.owner)) (sym here) (record {
+            base = record { keeps = kept.raise fence lt; holds = t.base.holds };
+            fact = facts.raise fence lt;
+          }))
+
+      -- what is done behind a fence is done on the history behind it
+      fenced_themed : (fence : ℕ) (o : Owned) → After next (onto (raise_events fence s.owner) h) o → After next h (behind_fence fence s o)
+      fenced_themed fence o z = subst (λ (l : List Event). Themed o.after.row o.after.counts l o.after.owner) (sym (onto_raised me next fence s.owner o.events o.alerts h)) z
+
+      looked_themed : (from number : ℕ) (c : List ℕ) (after : Id) → owner_of setup.workers c ≡ me → from < setup.workers → After next h (looked_by from number c after s)
+      looked_themed from number c after owns there = record { base = record { keeps = kept.look from number c after owns there; holds = held.look from c after }; fact = facts.look from number c after owns there }
+
+      swept_themed : (c : List ℕ) → Themed (touched_row c s.row s.owner) s.counts (onto (weave me next (touch_events_of c s.row s.owner) []) h) (touch_after c s.row s.owner)
+      swept_themed c = record { base = record { keeps = kept.sweep c; holds = held.touch c }; fact = facts.sweep c }
+
+      -- a sweep, and then an edge that is told and answered
+      edged_themed : (from number k : ℕ) (c : List ℕ) → owner_of setup.workers c ≡ me → from < setup.workers → After next h (edged_by from number k c s)
+      edged_themed from number k c owns there =
+          let z = swept_themed c in
+          let row = touched_row c s.row s.owner in
+          let before = onto (weave me next (touch_events_of c s.row s.owner) []) h in
+          let x = touch_after c s.row s.owner in
+          let swept = touched_once c s.row s.owner t.base.keeps.stands.fits.names in
+          let told_by : ℕ → List Event = (λ w. Made me from (next from) (lines.EdgeAnswer number x.desk.looks x.desk.floor (last_in c x)) ∷ Edged w x.desk.looks from number k c x.desk.floor (last_in c x) ∷ before) in
+          let last : Themed row s.counts (told_by me) (edged x) = record {
+            base = record { keeps = (keeps_steps next row s.counts before x z.base).edge from number k c owns there swept; holds = z.base.holds };
+            fact = (theme.step next row s.counts before x z.base z.fact).edge from number k c owns there swept;
+          } in
+          subst (λ (l : List Event). Themed row s.counts l (edged x)) (sym (onto_edge me next next from number k c s.row s.owner h))
+          (subst (λ (w : ℕ). Themed row s.counts (told_by w) (edged x)) (sym here) last)
+
+    module _ (next : ℕ → ℕ) (h : List Event) (s : Holding) (t : Themed s.row s.counts h s.owner) where
+      line_themed : (from : ℕ) (line : AlertLine) → from < setup.workers → IsLineTo setup.workers me line → After next h (owned_by (line_polls line s) from line s)
       line_themed from (lines.Publish r c len timeout ct body) there owns =
           let o = order_of r c len timeout ct body in
           let polls = told_polls s.counts o s.row s.owner in
           let fit = told_are_polls s.row s.counts s.owner o t.base.holds in
-          record { base = record { keeps = kept.publish from o polls owns.0 there fit; holds = held.publish o polls fit }; fact = facts.publish from o polls owns.0 there fit }
-      line_themed from (lines.Look number c after fence) there owns = record { base = record { keeps = kept.look from number c after owns there; holds = held.look from c after }; fact = facts.look from number c after owns there }
-      line_themed from (lines.Join c k) there owns = record { base = record { keeps = kept.join (member_of from k) c owns there; holds = held.touch c }; fact = facts.join (member_of from k) c owns there }
-      line_themed from (lines.Part c k) there owns = record { base = record { keeps = kept.part (member_of from k) c owns there; holds = held.touch c }; fact = facts.part (member_of from k) c owns there }
-      line_themed from (lines.Info r c) there owns = record { base = record { keeps = kept.info from r c owns there; holds = held.touch c }; fact = facts.info from r c owns there }
+          record { base = record { keeps = (kept next h s t).publish from o polls owns.0 there fit; holds = (held next h s t).publish o polls fit }; fact = (facts next h s t).publish from o polls owns.0 there fit }
+      line_themed from (lines.Look number c after fence) there owns =
+          fenced_themed next h s t fence (looked_by from number c after (fenced fence s)) (looked_themed next (onto (raise_events fence s.owner) h) (fenced fence s) (raised_themed next h s t fence) from number c after owns there)
+      line_themed from (lines.Edge number k c fence) there owns =
+          fenced_themed next h s t fence (edged_by from number k c (fenced fence s)) (edged_themed next (onto (raise_events fence s.owner) h) (fenced fence s) (raised_themed next h s t fence) from number k c owns there)
+      line_themed from (lines.Join c k) there owns = record { base = record { keeps = (kept next h s t).join (member_of from k) c owns there; holds = (held next h s t).touch c }; fact = (facts next h s t).join (member_of from k) c owns there }
+      line_themed from (lines.Part c k) there owns = record { base = record { keeps = (kept next h s t).part (member_of from k) c owns there; holds = (held next h s t).touch c }; fact = (facts next h s t).part (member_of from k) c owns there }
+      line_themed from (lines.Info r c) there owns = record { base = record { keeps = (kept next h s t).info from r c owns there; holds = (held next h s t).touch c }; fact = (facts next h s t).info from r c owns there }
       line_themed from (lines.PubAnswer r status info full) there owns = t
       line_themed from (lines.LookAnswer number q floor found g slot) there owns = t
       line_themed from (lines.Notice c id g slot) there owns = t
-      line_themed from (lines.Edge number k c fence) there owns = t
       line_themed from (lines.EdgeAnswer number q floor last) there owns = t
       line_themed from (lines.Delete r c) there owns = t
       line_themed from (lines.DelAnswer r status info) there owns = t

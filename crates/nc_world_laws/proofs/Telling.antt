@@ -98,9 +98,11 @@ woven_all P v next m es alerts p = woven_made P (λ (a : OutLine). Unit {0}) v (
 pub by_owner : (me : ℕ) (e : Event) → IsOfOwner me e → IsBy me e
 by_owner me (Joined w c from k) p = eqb_of me w p
 by_owner me (Parted w c from k) p = eqb_of me w p
+by_owner me (Raised w t) p = eqb_of me w p
 by_owner me (Stored w c id slot len exp kept members from r ct body) p = eqb_of me w p
 by_owner me (Left w c id slot cause) p = eqb_of me w p
 by_owner me (Looked w q from number c after floor found) p = eqb_of me w p
+by_owner me (Edged w q from number k c floor last) p = eqb_of me w p
 by_owner me (Granted w g slot to) p = eqb_of me w p
 by_owner me (Freed w slot) p = eqb_of me w p
 by_owner me e p = absurd p

@@ -15,7 +15,7 @@ use Rattle.nc_worker_state.specs.Setup.{Setup}
 use Rattle.nc_world.specs.World.{World, waiting_packets}
 
 -- what an alert to a worker keeps: what is asked of an owner goes to the channel's owner, and an answer has a status of its kind;
--- nobody asks for edges or deletions yet, and no channel goes
+-- no channel is deleted yet, and none goes
 abbrev pub IsLineTo : ℕ → ℕ → AlertLine → Type 0
 IsLineTo workers to (lines.Publish r c len timeout ct body) = (owner_of workers c ≡ to) × IsTimeout timeout × IsContentType ct
 IsLineTo workers to (lines.PubAnswer r status info full) = IsPublishStatus status

@@ -5,7 +5,8 @@ use Rattle.nc_types.specs.Channel.{owner_of}
 use Rattle.nc_types.specs.Message.{Message}
 use Rattle.nc_journal.specs.History.{own, onto, is_by}
 use Rattle.nc_journal.specs.declared.event.Event.{Event}
-use Rattle.nc_journal.specs.declared.event.Event.TheVariants.{Clock}
+use Rattle.nc_journal.specs.declared.event.Event.TheVariants.{Clock, Raised, Edged, Made}
+use Rattle.nc_journal.specs.declared.alert.AlertLine.TheVariants.{EdgeAnswer}
 use Rattle.nc_slots.specs.declared.slot.Slot.{Slot}
 use Rattle.nc_slots.specs.declared.slot.Slot.TheVariants.{Unused}
 use Rattle.nc_owner.specs.declared.order.Order.{Order}
@@ -15,6 +16,8 @@ use Rattle.nc_owner.specs.State.{OwnerAt, new_owner}
 use Rattle.nc_owner.specs.Poll.{slot_of}
 use Rattle.nc_owner.specs.Publish.{Polls, PublishPolls, publish_events, publish_alerts, publish_row, publish_after}
 use Rattle.nc_owner.specs.Look.{look_events, look_alerts, look_row, look_after}
+use Rattle.nc_owner.specs.Fence.{with_floor}
+use Rattle.nc_owner.specs.Edge.{last_in, edged}
 use Rattle.nc_owner.specs.OtherSteps.{touch_events_of, touched_row, touch_after, join_events, join_after, part_events, part_after, info_alerts, polled_events, polled_row, polled_after, with_clock}
 use Rattle.nc_owner_laws.specs.Aside.{IsAside}
 use Rattle.nc_owner_laws.specs.HoldsKept.{HoldsFit}
@@ -33,10 +36,14 @@ pub record StepBase (setup : Setup) (me : ℕ) (row : List (Slot Message)) (coun
   pub keeps : Keeps me setup.workers setup.slots setup.first row h s
   pub holds : HoldsFit row counts
 
--- the steps of owner `me` keep a fact: its own, on channels that it owns and asked by workers that are there, and all that its worker does beside it
+-- the steps of owner `me` keep a fact: its own, on channels that it owns and asked by workers that are there, and all that its worker does beside it;
+-- a look with a fence is one behind a raised floor, and an edge is told and answered on a channel that was swept, so that nothing more of it leaves
 pub record StepsKeep (setup : Setup) (me : ℕ) (P : OwnerFact) (next : ℕ → ℕ) (row : List (Slot Message)) (counts : List ℕ) (h : List Event) (s : OwnerAt) : Type 0 where
   pub aside : (e : Event) → IsAside e → is_by me e ≡ true → P row (e ∷ h) s
   pub clock : (now : ℕ) → P row (Clock me now ∷ h) (with_clock now s)
+  pub raise : (fence : ℕ) → s.desk.floor < fence → P row (Raised me fence ∷ h) (with_floor fence s)
+  pub edge : (from number k : ℕ) (c : List ℕ) → owner_of setup.workers c ≡ me → from < setup.workers → touch_events_of c row s ≡ []
+      → P row (Made me from (next from) (EdgeAnswer number s.desk.looks s.desk.floor (last_in c s)) ∷ Edged me s.desk.looks from number k c s.desk.floor (last_in c s) ∷ h) (edged s)
   pub join : (m : Member) (c : List ℕ) → owner_of setup.workers c ≡ me → m.from < setup.workers → P (touched_row c row s) (onto (weave me next (join_events m c row s) []) h) (join_after m c row s)
   pub part : (m : Member) (c : List ℕ) → owner_of setup.workers c ≡ me → m.from < setup.workers → P (touched_row c row s) (onto (weave me next (part_events m c row s) []) h) (part_after m c row s)
   pub info : (from r : ℕ) (c : List ℕ) → owner_of setup.workers c ≡ me → from < setup.workers → P (touched_row c row s) (onto (weave me next (touch_events_of c row s) (info_alerts from r c row s)) h) (touch_after c row s)

@@ -11,6 +11,7 @@ use Rattle.nc_buffer.specs.declared.entry.Entry.{Entry}
 use Rattle.nc_owner.specs.declared.desk.Desk.{Desk as OwnerDesk}
 use Rattle.nc_owner.specs.Publish.{Polls}
 use Rattle.nc_owner.specs.Look.{found_on, found_line, look_ready}
+use Rattle.nc_owner.specs.Fence.{with_floor}
 use Rattle.nc_history.specs.Packets.{Packet, packet, sent_lines, lines_of}
 use Rattle.nc_worker_state.specs.Setup.{Setup}
 use Rattle.nc_worker_state.specs.Incoming.{TakesPacket}
@@ -87,7 +88,7 @@ module _ (n from : ℕ) where
   found_looked number (Some e) d = subst (λ (b : Bool). one_if (number == n) ≤ cond b (one_if (number == n)) 0 + 0) (sym (eqb_self from)) (omega arith)
 
   owner_looked : (polls : Polls) (line : AlertLine) (s : Holding) → looking n line ≤ out_for (looked n) from (owned_by polls from line s).alerts
-  owner_looked polls (lines.Look number c after fence) s = found_looked number (found_on after (look_ready c s.row s.owner)) (look_ready c s.row s.owner).desk
+  owner_looked polls (lines.Look number c after fence) s = let ready = look_ready c s.row (with_floor fence s.owner) in found_looked number (found_on after ready) ready.desk
   owner_looked polls line s = omega arith
 
 -- so does a worker that takes it

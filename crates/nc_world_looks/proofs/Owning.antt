@@ -14,6 +14,7 @@ use Rattle.nc_owner.specs.AlertLines.{OutLine}
 use Rattle.nc_owner.specs.State.{Bench, exists}
 use Rattle.nc_owner.specs.Publish.{Polls, Outcome, late, full, stored, notices, asked, roomy, stamp, lowest_slot, post_alerts, publish_outcome, publish_cleared}
 use Rattle.nc_owner.specs.Look.{found_on, found_line, look_ready}
+use Rattle.nc_owner.specs.Fence.{with_floor}
 use Rattle.nc_worker_state.specs.Setup.{Setup}
 use Rattle.nc_worker_state.specs.Incoming.{Incoming, TakesPacket, ClockReads, Reaps, Posts, Subscribes, Informs}
 use Rattle.nc_worker_state.specs.Deed.{Deed, Does, Makes, next_after}
@@ -66,14 +67,15 @@ module _ (n y : ℕ) where
       omega (arith, none)
   owner_looks polls from (lines.Info r c) s = let none = plain_out (owned_by polls from (lines.Info r c) s).alerts (info_plain (exists c s.owner) r _, tt) in omega (arith, none)
   owner_looks polls from (lines.Look number c after fence) s =
-      let found = found_for from number (found_on after (look_ready c s.row s.owner)) (look_ready c s.row s.owner).desk in
+      let ready = look_ready c s.row (with_floor fence s.owner) in
+      let found = found_for from number (found_on after ready) ready.desk in
       omega (arith, found)
+  owner_looks polls from (lines.Edge number k c fence) s = let none = plain_out (owned_by polls from (lines.Edge number k c fence) s).alerts (refl, tt) in omega (arith, none)
   owner_looks polls from (lines.Join c k) s = omega arith
   owner_looks polls from (lines.Part c k) s = omega arith
   owner_looks polls from (lines.PubAnswer r status info usage) s = omega arith
   owner_looks polls from (lines.LookAnswer number q floor found g slot) s = omega arith
   owner_looks polls from (lines.Notice c id g slot) s = omega arith
-  owner_looks polls from (lines.Edge number k c fence) s = omega arith
   owner_looks polls from (lines.EdgeAnswer number q floor last) s = omega arith
   owner_looks polls from (lines.Delete r c) s = omega arith
   owner_looks polls from (lines.DelAnswer r status info) s = omega arith

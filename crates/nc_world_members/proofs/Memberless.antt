@@ -23,14 +23,17 @@ use Rattle.nc_owner.specs.State.{Bench, bench_of, opened, exists}
 use Rattle.nc_owner.specs.Leave.{left_event, leavers, touched}
 use Rattle.nc_owner.specs.Poll.{freed_event, freed_events, free_slots}
 use Rattle.nc_owner.specs.Publish.{Polls, Outcome, late, stored, full as is_all, notices, answer, stamp, stored_status, store_bench, granted_events, asked, roomy, roomy_events, stored_events, leaving, lowest_slot, post_events, post_alerts, cleared_events, publish_outcome, publish_cleared, info_of}
-use Rattle.nc_owner.specs.Look.{found_on, looked_event, found_events, found_line, look_ready}
+use Rattle.nc_owner.specs.Look.{found_on, looked_event, found_events, found_line, look_ready, look_events}
+use Rattle.nc_owner.specs.Fence.{raise_events}
+use Rattle.nc_owner.specs.Edge.{edge_events}
 use Rattle.nc_owner.specs.OtherSteps.{touch_events_of, touched_of, parted_events, names_of}
 use Rattle.nc_reaper.specs.Reap.{Swept, state, swept, swept_all}
 use Rattle.nc_owner_laws.specs.Filters.{is_same, is_member}
 use Rattle.nc_owner_laws.specs.Weave.{weave}
+use Rattle.nc_owner_laws.proofs.Fences.{raise_are, edge_are}
 use Rattle.nc_owner_laws.proofs.Stamping.{onto_append}
 use Rattle.nc_worker_state.specs.Incoming.{Incoming, TakesPacket, ClockReads, Reaps, Posts, Subscribes, Informs}
-use Rattle.nc_worker_state.specs.Owned.{Holding, StepPolls, owned_by, owned_in, order_of, member_of}
+use Rattle.nc_worker_state.specs.Owned.{Holding, StepPolls, fenced, owned_by, owned_in, order_of, member_of}
 use Rattle.nc_world_laws.proofs.Local.{all_append}
 use Rattle.nc_world_laws.proofs.Telling.{woven_all, weave_nothing}
 
@@ -90,13 +93,20 @@ less_publish polls from o s =
     (all_append IsMemberless (touch_events_of o.chan s.row s.owner) (map (freed_event s.owner.desk.me) (free_slots polls.retired)) (less_touch o.chan s) (less_freed s.owner.desk.me (free_slots polls.retired)))
     (less_post (publish_outcome o polls s.row s.owner) from o polls (publish_cleared o polls s.row s.owner))
 
-less_look : (from number : ℕ) (c : List ℕ) (id : Id) (s : Holding) → AreMemberless (owned_by (record { retired = []; leaving = []; left = [] }) from (lines.Look number c id 0) s).events
+less_look : (from number : ℕ) (c : List ℕ) (id : Id) (s : Holding) → AreMemberless (look_events from number c id s.row s.owner)
 less_look from number c id s =
     let b = bench_of c s.row s.owner in
     let spends = map (left_event s.owner.desk.me c Spent) (leavers is_spent (touched b)) in
     all_append IsMemberless (touch_events_of c s.row s.owner ++ spends) _
     (all_append IsMemberless (touch_events_of c s.row s.owner) spends (less_touch c s) (less_left s.owner.desk.me c Spent (leavers is_spent (touched b))))
     (less_found from number c id (found_on id (look_ready c s.row s.owner)) (look_ready c s.row s.owner).desk)
+
+less_edge : (from number k : ℕ) (c : List ℕ) (s : Holding) → AreMemberless (edge_events from number k c s.row s.owner)
+less_edge from number k c s = edge_are IsMemberless from number k c s.row s.owner (less_touch c s) tt
+
+-- a fence tells nothing of members
+less_behind : (fence : ℕ) (s : Holding) (es : List Event) → AreMemberless es → AreMemberless (raise_events fence s.owner ++ es)
+less_behind fence s es k = all_append IsMemberless (raise_events fence s.owner) es (raise_are IsMemberless fence s.owner tt) k
 
 less_swept : (names : List (List ℕ)) (x : Swept) → AreMemberless x.events → AreMemberless (fold swept x names).events
 less_swept [] x a = a
@@ -138,12 +148,12 @@ module _ (c : List ℕ) (m : Member) (me : ℕ) (next : ℕ → ℕ) (l : List E
     by_line (lines.Part d n) = then_woven (touch_events_of d s.row s.owner) (parted_events s.owner.desk.me (member_of from n) d (opened d s.owner)) (less_touch d s)
         ∙ parts_case (has_member (member_of from n) (opened d s.owner).members) (name_eq d c && is_same m from n) (is_member c m l) s.owner.desk.me from n d (onto (touch_events_of d s.row s.owner) l) refl (memberless_onto c m (touch_events_of d s.row s.owner) l (less_touch d s)) (kept d n)
     by_line (lines.Publish r d len timeout ct body) = less_woven _ _ (less_publish polls from (order_of r d len timeout ct body) s)
-    by_line (lines.Look number d after fence) = less_woven _ _ (less_look from number d after s)
+    by_line (lines.Look number d after fence) = less_woven _ _ (less_behind fence s _ (less_look from number d after (fenced fence s)))
     by_line (lines.Info r d) = less_woven _ _ (less_touch d s)
     by_line (lines.PubAnswer r status info full) = refl
     by_line (lines.LookAnswer number q floor past g slot) = refl
     by_line (lines.Notice d id g slot) = refl
-    by_line (lines.Edge number k d fence) = refl
+    by_line (lines.Edge number k d fence) = less_woven _ _ (less_behind fence s _ (less_edge from number k d (fenced fence s)))
     by_line (lines.EdgeAnswer number q floor last) = refl
     by_line (lines.Delete r d) = refl
     by_line (lines.DelAnswer r status info) = refl
@@ -201,14 +211,14 @@ apart_info r false info = tt
 
 apart_line : (polls : Polls) (from : ℕ) (line : AlertLine) (s : Holding) → AreApart (owned_by polls from line s).alerts
 apart_line polls from (lines.Publish r c len timeout ct body) s = let o = order_of r c len timeout ct body in apart_post (publish_outcome o polls s.row s.owner) from o polls (publish_cleared o polls s.row s.owner)
-apart_line polls from (lines.Look number c after fence) s = (apart_found from number (found_on after (look_ready c s.row s.owner)) (look_ready c s.row s.owner).desk, tt)
+apart_line polls from (lines.Look number c after fence) s = let b = look_ready c s.row (fenced fence s).owner in (apart_found from number (found_on after b) b.desk, tt)
 apart_line polls from (lines.Info r c) s = (apart_info r (exists c s.owner) (Some (info_of (touched_of c s.row s.owner).channel)), tt)
 apart_line polls from (lines.Join c k) s = tt
 apart_line polls from (lines.Part c k) s = tt
 apart_line polls from (lines.PubAnswer r status info full) s = tt
 apart_line polls from (lines.LookAnswer number q floor found g slot) s = tt
 apart_line polls from (lines.Notice c id g slot) s = tt
-apart_line polls from (lines.Edge number k c fence) s = tt
+apart_line polls from (lines.Edge number k c fence) s = (tt, tt)
 apart_line polls from (lines.EdgeAnswer number q floor last) s = tt
 apart_line polls from (lines.Delete r c) s = tt
 apart_line polls from (lines.DelAnswer r status info) s = tt

@@ -186,6 +186,8 @@ asked_theme setup me = record {
       record {
         aside = λ e p by. (unasked setup.workers e (aside_unasked e p), fact);
         clock = λ now. (tt, fact);
+        raise = λ fence lt. (tt, fact);
+        edge = λ from number k c owns there swept. (tt, ((sym owns, there), fact));
         join = λ m c owns there. step c m.from (join_events m c row s) [] owns there (on_join m c row s);
         part = λ m c owns there. step c m.from (part_events m c row s) [] owns there (on_part m c row s);
         info = λ from r c owns there. step c from (touch_events_of c row s) (info_alerts from r c row s) owns there (on_touch c from row s);

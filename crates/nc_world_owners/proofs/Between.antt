@@ -17,6 +17,7 @@ use Rattle.nc_owner.specs.declared.order.Order.{Order}
 use Rattle.nc_owner.specs.AlertLines.{OutLine}
 use Rattle.nc_owner.specs.State.{Bench, opened}
 use Rattle.nc_owner.specs.Look.{found_on, found_line, look_ready}
+use Rattle.nc_owner.specs.Fence.{with_floor}
 use Rattle.nc_owner.specs.Publish.{Polls, Outcome, late, stored, full as is_all, notices, answer, asked, roomy, stamp, lowest_slot, stored_status, info_of, store_bench, post_alerts, publish_outcome, publish_cleared}
 use Rattle.nc_history.specs.Packets.{Packet, packet, is_pair, pending}
 use Rattle.nc_worker_state.specs.Setup.{Setup}
@@ -78,14 +79,14 @@ module _ (workers : ℕ) where
 
   line_there : (polls : Polls) (from : ℕ) (line : AlertLine) (s : Holding) → from < workers → ((c : List ℕ) → AllByRecursion (λ u. u < workers) (opened c s.owner).marks) → AreThere workers (owned_by polls from line s).alerts
   line_there polls from (lines.Publish r c len timeout ct body) s there marks = let o = order_of r c len timeout ct body in post_there (publish_outcome o polls s.row s.owner) from o polls (publish_cleared o polls s.row s.owner) there (marks c)
-  line_there polls from (lines.Look number c after fence) s there marks = (found_there from number (found_on after (look_ready c s.row s.owner)) (look_ready c s.row s.owner).desk there, tt)
+  line_there polls from (lines.Look number c after fence) s there marks = let ready = look_ready c s.row (with_floor fence s.owner) in (found_there from number (found_on after ready) ready.desk there, tt)
+  line_there polls from (lines.Edge number k c fence) s there marks = (there, tt)
   line_there polls from (lines.Join c k) s there marks = tt
   line_there polls from (lines.Part c k) s there marks = tt
   line_there polls from (lines.Info r c) s there marks = (there, tt)
   line_there polls from (lines.PubAnswer r status info full) s there marks = tt
   line_there polls from (lines.LookAnswer number q floor found g slot) s there marks = tt
   line_there polls from (lines.Notice c id g slot) s there marks = tt
-  line_there polls from (lines.Edge number k c fence) s there marks = tt
   line_there polls from (lines.EdgeAnswer number q floor last) s there marks = tt
   line_there polls from (lines.Delete r c) s there marks = tt
   line_there polls from (lines.DelAnswer r status info) s there marks = tt

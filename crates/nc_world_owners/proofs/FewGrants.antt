@@ -306,6 +306,8 @@ grants_theme setup ok me = record {
       record {
         aside = λ e p by. record { counted = k.aside e p by; asked = a.aside e p by; few = λ slot. subst (λ (n : ℕ). n ≤ most_grants) (sym (aside_grants slot h e p)) (fact.few slot) };
         clock = λ now. record { counted = k.clock now; asked = a.clock now; few = fact.few };
+        raise = λ fence lt. record { counted = k.raise fence lt; asked = a.raise fence lt; few = fact.few };
+        edge = λ from number n c owns there swept. record { counted = k.edge from number n c owns there swept; asked = a.edge from number n c owns there swept; few = fact.few };
         join = λ m c owns there. record { counted = k.join m c owns there; asked = a.join m c owns there; few = few_woven me next (join_events m c row s) [] h (all_append IsGrantless (touch_events_of c row s) _ (no_touch c row s) (tt, tt)) fact.few };
         part = λ m c owns there. record { counted = k.part m c owns there; asked = a.part m c owns there; few = few_woven me next (part_events m c row s) [] h (all_append IsGrantless (touch_events_of c row s) _ (no_touch c row s) (no_parted (has_member m (opened c s).members) s.desk.me c m)) fact.few };
         info = λ from r c owns there. record { counted = k.info from r c owns there; asked = a.info from r c owns there; few = few_woven me next (touch_events_of c row s) (info_alerts from r c row s) h (no_touch c row s) fact.few };

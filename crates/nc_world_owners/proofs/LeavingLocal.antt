@@ -7,10 +7,11 @@ use Rattle.nc_journal.specs.History.{own, onto, Along}
 use Rattle.nc_journal.specs.Message.{published}
 use Rattle.nc_journal.specs.Sending.{HasId}
 use Rattle.nc_journal.specs.Stamp.{IsStamped}
-use Rattle.nc_journal.specs.Leaving.{IsLeavingRule, LeftAt, FindsAt, grants_since, most_grants}
+use Rattle.nc_journal.specs.Leaving.{IsLeavingRule, LeftAt, FindsAt, NoneExpired, grants_since, most_grants}
 use Rattle.nc_journal.specs.declared.event.Event.{Event}
-use Rattle.nc_journal.specs.declared.event.Event.TheVariants.{Clock, Joined, Parted, Stored, Left, Looked, Edged, Removed}
+use Rattle.nc_journal.specs.declared.event.Event.TheVariants.{Clock, Joined, Parted, Raised, Stored, Left, Looked, Edged, Removed, Made}
 use Rattle.nc_journal.specs.declared.word.LeftCause.TheVariants.{Expired}
+use Rattle.nc_journal.specs.declared.alert.AlertLine.TheVariants.{EdgeAnswer}
 use Rattle.nc_journal.proofs.Cuts.{cut-push}
 use Rattle.nc_journal.proofs.Leavings.{left-more}
 use Rattle.nc_buffer.specs.declared.entry.Entry.{Entry}
@@ -18,6 +19,7 @@ use Rattle.nc_buffer.specs.Buffer.{is_expired}
 use Rattle.nc_slots.specs.declared.slot.Slot.{Slot}
 use Rattle.nc_owner.specs.State.{OwnerAt, entries_of, opened, bench_of}
 use Rattle.nc_owner.specs.Leave.{left_event, leavers}
+use Rattle.nc_owner.specs.Edge.{last_in}
 use Rattle.nc_owner.specs.Publish.{publish_events, publish_alerts}
 use Rattle.nc_owner.specs.Look.{look_events, look_alerts}
 use Rattle.nc_owner.specs.OtherSteps.{touch_events_of, join_events, part_events, info_alerts, polled_events}
@@ -70,6 +72,12 @@ swept_owned workers me next w c (e ∷ leaving) h local stamped stored =
     let has = (along_older LeavesStored (weave me next (map (left_event w c Expired) leaving) []) (left_event w c Expired e ∷ h) stored).1 in
     inr (sym (stored_there workers me c e.id h (subst (IsStamped workers) (sym local) stamped) (subst (λ (l : List Event). HasId (published c l) e.id) (sym local) has)))
 
+-- ---- on a channel that was swept nothing has expired
+
+-- a join would find nothing there that has
+none_expired : (workers : ℕ) (next : ℕ → ℕ) (w : ℕ) (c : List ℕ) (h touch : List Event) → touch ≡ [] → IsLeavingRule workers (onto (weave w next (touch ++ Joined w c 0 0 ∷ []) []) h) → NoneExpired w c h
+none_expired workers next w c h touch swept rule = (subst (λ (es : List Event). IsLeavingRule workers (onto (weave w next (es ++ Joined w c 0 0 ∷ []) []) h)) swept rule).finds.1
+
 -- ---- the theme
 
 pub record LeavingFacts (setup : Setup) (row : List (Slot Message)) (h : List Event) : Type 0 where
@@ -95,6 +103,14 @@ leaving_theme setup ok me = record {
       record {
         aside = λ e p by. record { grants = g.aside e p by; leaves = leaves_more setup.workers h e (aside_left setup.workers h e p) (aside_finds h e p) fact.leaves };
         clock = λ now. record { grants = g.clock now; leaves = leaves_more setup.workers h (Clock me now) tt tt fact.leaves };
+        raise = λ fence lt. record { grants = g.raise fence lt; leaves = leaves_more setup.workers h (Raised me fence) tt tt fact.leaves };
+        edge = λ from number n c owns there swept. record {
+          grants = g.edge from number n c owns there swept;
+          leaves =
+              let e = Edged me s.desk.looks from number n c s.desk.floor (last_in c s) in
+              let none = subst (λ (w : ℕ). NoneExpired w c h) is (none_expired setup.workers next s.desk.me c h (touch_events_of c row s) swept (k.join (record { from = 0; k = 0 }) c (owns ∙ sym is))) in
+              leaves_more setup.workers (e ∷ h) (Made me from (next from) (EdgeAnswer number s.desk.looks s.desk.floor (last_in c s))) tt tt (leaves_more setup.workers h e tt none fact.leaves);
+        };
         join = λ m c owns there. record { grants = g.join m c owns there; leaves = as_me rule me next h s is (join_events m c row s) [] (k.join m c (owns ∙ sym is)) };
         part = λ m c owns there. record { grants = g.part m c owns there; leaves = as_me rule me next h s is (part_events m c row s) [] (k.part m c (owns ∙ sym is)) };
         info = λ from r c owns there. record { grants = g.info from r c owns there; leaves = as_me rule me next h s is (touch_events_of c row s) (info_alerts from r c row s) (k.info from r c (owns ∙ sym is)) };

@@ -42,6 +42,8 @@ stages_theme setup me = record {
       record {
         aside = λ e p by slot. aside_stage slot h e p ∙ fact slot;
         clock = λ now slot. fact slot;
+        raise = λ fence lt slot. fact slot;
+        edge = λ from number k c owns there swept slot. fact slot;
         join = λ m c owns there. as_me (AreStaged (touched_row c row s)) me next h s is (join_events m c row s) [] (k.join m c);
         part = λ m c owns there. as_me (AreStaged (touched_row c row s)) me next h s is (part_events m c row s) [] (k.part m c);
         info = λ from r c owns there. as_me (AreStaged (touched_row c row s)) me next h s is (touch_events_of c row s) (info_alerts from r c row s) (k.info from r c);
@@ -78,6 +80,8 @@ slots_theme setup me = record {
       record {
         aside = λ e p by. record { staged = k.aside e p by; taken = (fact.taken, aside_slots setup.slots h e p) };
         clock = λ now. record { staged = k.clock now; taken = (fact.taken, tt) };
+        raise = λ fence lt. record { staged = k.raise fence lt; taken = (fact.taken, tt) };
+        edge = λ from number n c owns there swept. record { staged = k.edge from number n c owns there swept; taken = ((fact.taken, tt), tt) };
         join = λ m c owns there. record { staged = k.join m c owns there; taken = as_me along me next h s is (join_events m c row s) [] (t.join m c) };
         part = λ m c owns there. record { staged = k.part m c owns there; taken = as_me along me next h s is (part_events m c row s) [] (t.part m c) };
         info = λ from r c owns there. record { staged = k.info from r c owns there; taken = as_me along me next h s is (touch_events_of c row s) (info_alerts from r c row s) (t.info from r c) };
@@ -114,6 +118,8 @@ counts_theme setup me = record {
       record {
         aside = λ e p by. aside_counts row h e p fact;
         clock = λ now slot. fact slot;
+        raise = λ fence lt slot. fact slot;
+        edge = λ from number k c owns there swept slot. fact slot;
         join = λ m c owns there. as_me (SlotsCount (touched_row c row s)) me next h s is (join_events m c row s) [] (k.join m c);
         part = λ m c owns there. as_me (SlotsCount (touched_row c row s)) me next h s is (part_events m c row s) [] (k.part m c);
         info = λ from r c owns there. as_me (SlotsCount (touched_row c row s)) me next h s is (touch_events_of c row s) (info_alerts from r c row s) (k.info from r c);

@@ -21,7 +21,7 @@ use Rattle.nc_owner.specs.OtherSteps.{touched_of}
 use Rattle.nc_owner_laws.specs.Kinds.{IsOfOwner}
 use Rattle.nc_worker_state.specs.Setup.{Setup}
 use Rattle.nc_worker_state.specs.Incoming.{Incoming, TakesPacket, ClockReads, Reaps, Posts, Subscribes, Informs}
-use Rattle.nc_worker_state.specs.Owned.{Holding, StepPolls, owned_by, owned_in, order_of}
+use Rattle.nc_worker_state.specs.Owned.{Holding, StepPolls, fenced, owned_by, owned_in, order_of}
 use Rattle.nc_worker_state.specs.Worker.{holding}
 use Rattle.nc_worker_state.specs.Deed.{next_after}
 use Rattle.nc_world.specs.World.{World, seat, polls_of, handled_events}
@@ -70,14 +70,14 @@ module _ (workers x : ℕ) where
 
   notice_line : (polls : Polls) (from : ℕ) (line : AlertLine) (s : Holding) → IsLineTo workers x line → AreNotices (owned_by polls from line s).alerts
   notice_line polls from (lines.Publish r c len timeout ct body) s right = let o = order_of r c len timeout ct body in notice_post (publish_outcome o polls s.row s.owner) from o polls (publish_cleared o polls s.row s.owner) right.0
-  notice_line polls from (lines.Look number c after fence) s right = (notice_found from number (found_on after (look_ready c s.row s.owner)) (look_ready c s.row s.owner).desk, tt)
+  notice_line polls from (lines.Look number c after fence) s right = let b = look_ready c s.row (fenced fence s).owner in (notice_found from number (found_on after b) b.desk, tt)
   notice_line polls from (lines.Info r c) s right = (notice_info r (exists c s.owner) (Some (info_of (touched_of c s.row s.owner).channel)), tt)
   notice_line polls from (lines.Join c k) s right = tt
   notice_line polls from (lines.Part c k) s right = tt
   notice_line polls from (lines.PubAnswer r status info full) s right = tt
   notice_line polls from (lines.LookAnswer number q floor found g slot) s right = tt
   notice_line polls from (lines.Notice c id g slot) s right = tt
-  notice_line polls from (lines.Edge number k c fence) s right = tt
+  notice_line polls from (lines.Edge number k c fence) s right = (tt, tt)
   notice_line polls from (lines.EdgeAnswer number q floor last) s right = tt
   notice_line polls from (lines.Delete r c) s right = tt
   notice_line polls from (lines.DelAnswer r status info) s right = tt

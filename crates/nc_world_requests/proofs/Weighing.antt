@@ -13,15 +13,16 @@ use Rattle.nc_buffer.specs.declared.entry.Entry.{Entry}
 use Rattle.nc_owner.specs.declared.desk.Desk.{Desk as OwnerDesk}
 use Rattle.nc_owner.specs.declared.order.Order.{Order}
 use Rattle.nc_owner.specs.AlertLines.{OutLine}
-use Rattle.nc_owner.specs.State.{Bench, exists}
+use Rattle.nc_owner.specs.State.{OwnerAt, Bench, exists}
 use Rattle.nc_owner.specs.Publish.{Polls, Outcome, late, full, stored, notices, answer, asked, roomy, stamp, lowest_slot, stored_status, info_of, store_bench, post_alerts, publish_outcome, publish_cleared}
 use Rattle.nc_owner.specs.Look.{found_on, found_line, look_ready}
-use Rattle.nc_owner.specs.OtherSteps.{touched_of}
+use Rattle.nc_owner.specs.Edge.{edge_line}
+use Rattle.nc_owner.specs.OtherSteps.{touched_of, touch_after}
 use Rattle.nc_owner_laws.specs.Kinds.{IsOfOwner}
 use Rattle.nc_owner_laws.specs.Weave.{weave, makes, numbered}
 use Rattle.nc_history.specs.Packets.{Packet, packet}
 use Rattle.nc_worker_state.specs.Deed.{Deed, Does, Makes, told}
-use Rattle.nc_worker_state.specs.Owned.{Holding, order_of, owned_by}
+use Rattle.nc_worker_state.specs.Owned.{Holding, order_of, fenced, owned_by}
 use Rattle.nc_worker_state.specs.Worker.{sent_to}
 use Rattle.nc_world_laws.specs.Kinds.{AsksOwner, AreDeeds}
 use Rattle.nc_world_holds.specs.Balance.{one_if}
@@ -175,6 +176,9 @@ module _ (r x : ℕ) where
   found_none from number None d = record { answered = last_none (x == from); unasked = last_none (x == from) }
   found_none from number (Some e) d = record { answered = last_none (x == from); unasked = last_none (x == from) }
 
+  edge_none : (from number : ℕ) (c : List ℕ) (s : OwnerAt) → AnswersSo 0 (edge_line from number c s ∷ [])
+  edge_none from number c s = record { answered = last_none (x == from); unasked = last_none (x == from) }
+
   info_answers : (b : Bool) (n : ℕ) (info : Option Info) → (answering r (cond b (lines.InfoAnswer n 200 info) (lines.InfoAnswer n 404 None)) ≡ one_if (n == r)) × (asking r (cond b (lines.InfoAnswer n 200 info) (lines.InfoAnswer n 404 None)) ≡ 0)
   info_answers true n info = (refl, refl)
   info_answers false n info = (refl, refl)
@@ -189,13 +193,13 @@ module _ (r x : ℕ) where
       let info = Some (info_of (touched_of c s.row s.owner).channel) in
       let k = info_answers (exists c s.owner) n info in
       one_answer from n _ refl k.0 k.1
-  owner_answers polls from (lines.Look number c after fence) s = none_made (x == from) _ (found_none from number (found_on after (look_ready c s.row s.owner)) (look_ready c s.row s.owner).desk)
+  owner_answers polls from (lines.Look number c after fence) s = let b = look_ready c s.row (fenced fence s).owner in none_made (x == from) _ (found_none from number (found_on after b) b.desk)
   owner_answers polls from (lines.Join c k) s = none_made (x == from) [] nothing
   owner_answers polls from (lines.Part c k) s = none_made (x == from) [] nothing
   owner_answers polls from (lines.PubAnswer n status info usage) s = none_made (x == from) [] nothing
   owner_answers polls from (lines.LookAnswer number q floor found g slot) s = none_made (x == from) [] nothing
   owner_answers polls from (lines.Notice c id g slot) s = none_made (x == from) [] nothing
-  owner_answers polls from (lines.Edge number k c fence) s = none_made (x == from) [] nothing
+  owner_answers polls from (lines.Edge number k c fence) s = none_made (x == from) _ (edge_none from number c (touch_after c s.row (fenced fence s).owner))
   owner_answers polls from (lines.EdgeAnswer number q floor last) s = none_made (x == from) [] nothing
   owner_answers polls from (lines.Delete n c) s = none_made (x == from) [] nothing
   owner_answers polls from (lines.DelAnswer n status info) s = none_made (x == from) [] nothing

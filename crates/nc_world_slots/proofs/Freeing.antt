@@ -26,13 +26,16 @@ use Rattle.nc_owner.specs.Members.{has_member}
 use Rattle.nc_owner.specs.Poll.{freed_events}
 use Rattle.nc_owner.specs.Publish.{Polls, Outcome, late, full, stored, granted_events, asked, roomy, roomy_events, stored_events, leaving, lowest_slot, cleared, slots_of, post_events, publish_outcome, publish_cleared, cleared_events}
 use Rattle.nc_owner.specs.Look.{found_on, looked_event, found_events, look_ready}
-use Rattle.nc_owner.specs.OtherSteps.{touch_events_of, parted_events, names_of}
+use Rattle.nc_owner.specs.Fence.{raise_events}
+use Rattle.nc_owner.specs.Edge.{edged_event}
+use Rattle.nc_owner.specs.OtherSteps.{touch_events_of, touch_after, parted_events, names_of}
 use Rattle.nc_owner_laws.specs.HoldsKept.{told_answers, told_polls}
 use Rattle.nc_owner_laws.specs.Weave.{weave, makes, numbered}
+use Rattle.nc_owner_laws.proofs.Fences.{raise_are}
 use Rattle.nc_reaper.specs.Reap.{swept_all, swept, Swept}
 use Rattle.nc_worker_state.specs.Setup.{Setup}
 use Rattle.nc_worker_state.specs.Incoming.{Incoming, TakesPacket, ClockReads, Reaps, Posts, Subscribes, Informs}
-use Rattle.nc_worker_state.specs.Owned.{Holding, order_of, owned, owned_by, line_polls}
+use Rattle.nc_worker_state.specs.Owned.{Holding, order_of, looked_by, edged_by, fenced, owned, owned_by, line_polls}
 use Rattle.nc_worker_state.specs.Worker.{holding}
 use Rattle.nc_world.specs.World.{World, seat, handled_events}
 use Rattle.nc_world.specs.Reached.{IsSetup, Reached}
@@ -143,13 +146,20 @@ module _ (me : ℕ) (counts : List ℕ) where
   found_first from number c id None d = (tt, tt)
   found_first from number c id (Some e) d = (tt, tt)
 
-  asked_first : (from : ℕ) (line : AlertLine) (s : Holding) → s.owner.desk.me ≡ me → s.counts ≡ counts → FreeFirst (owned_by (line_polls line s) from line s).events
-  asked_first from (lines.Publish r c len timeout ct body) s is same = publish_first from (order_of r c len timeout ct body) s is (told_polls s.counts (order_of r c len timeout ct body) s.row s.owner) (ap (λ (k : List ℕ). told_polls k (order_of r c len timeout ct body) s.row s.owner) same)
-  asked_first from (lines.Look number c after fence) s is same =
+  look_first : (from number : ℕ) (c : List ℕ) (after : Id) (s : Holding) → FreeFirst (looked_by from number c after s).events
+  look_first from number c after s =
       let ready = look_ready c s.row s.owner in
       first_append (touch_events_of c s.row s.owner ++ spend_events c (touched (bench_of c s.row s.owner))) (looked_event from number c after (found_on after ready) ready.desk ∷ found_events from (found_on after ready) ready.desk)
       (all_append IsCalm (touch_events_of c s.row s.owner) (spend_events c (touched (bench_of c s.row s.owner))) (touched_calm c s) (left_calm s.owner.desk.me c Spent (leavers is_spent (touched (bench_of c s.row s.owner)))))
       (found_first from number c after (found_on after ready) ready.desk)
+
+  edge_first : (from number k : ℕ) (c : List ℕ) (s : Holding) → FreeFirst (edged_by from number k c s).events
+  edge_first from number k c s = first_append (touch_events_of c s.row s.owner) (edged_event from number k c (touch_after c s.row s.owner) ∷ []) (touched_calm c s) (tt, tt)
+
+  asked_first : (from : ℕ) (line : AlertLine) (s : Holding) → s.owner.desk.me ≡ me → s.counts ≡ counts → FreeFirst (owned_by (line_polls line s) from line s).events
+  asked_first from (lines.Publish r c len timeout ct body) s is same = publish_first from (order_of r c len timeout ct body) s is (told_polls s.counts (order_of r c len timeout ct body) s.row s.owner) (ap (λ (k : List ℕ). told_polls k (order_of r c len timeout ct body) s.row s.owner) same)
+  asked_first from (lines.Look number c after fence) s is same = first_append (raise_events fence s.owner) _ (raise_are IsCalm fence s.owner tt) (look_first from number c after (fenced fence s))
+  asked_first from (lines.Edge number k c fence) s is same = first_append (raise_events fence s.owner) _ (raise_are IsCalm fence s.owner tt) (edge_first from number k c (fenced fence s))
   asked_first from (lines.Join c k) s is same = first_append (touch_events_of c s.row s.owner) (Joined s.owner.desk.me c from k ∷ []) (touched_calm c s) (tt, tt)
   asked_first from (lines.Part c k) s is same =
       let m : Member = record { from = from; k = k } in
@@ -158,7 +168,6 @@ module _ (me : ℕ) (counts : List ℕ) where
   asked_first from (lines.PubAnswer r status info usage) s is same = tt
   asked_first from (lines.LookAnswer number q floor found g slot) s is same = tt
   asked_first from (lines.Notice c id g slot) s is same = tt
-  asked_first from (lines.Edge number k c fence) s is same = tt
   asked_first from (lines.EdgeAnswer number q floor last) s is same = tt
   asked_first from (lines.Delete r c) s is same = tt
   asked_first from (lines.DelAnswer r status info) s is same = tt

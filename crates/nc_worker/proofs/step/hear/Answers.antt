@@ -10,7 +10,12 @@ returns-in-Publish g c =
 pub returns-in-Look : goal.returns-in-Look
 returns-in-Look g c =
     hears_owned g.P.Slots.held g.P.Slots.exact c.args.from (g.P.Slots.slots c.args.pool.now) (g.P.Slots.holds c.args.pool.now) c.args.parts.now c.requires.sound c.args.alert _ c.in-Look.is
-    (g.P.Slots.slots c.look.new.pool) (g.P.Slots.holds c.look.new.pool) c.look.new.owner c.look.new.scribe refl (λ n. c.in_ok-look-in-Look.ensures n c.in-Look._fence)
+    (g.P.Slots.slots c.look.new.pool) (g.P.Slots.holds c.look.new.pool) c.look.new.owner c.look.new.scribe refl c.in_ok-look-in-Look.ensures
+
+pub returns-in-Edge : goal.returns-in-Edge
+returns-in-Edge g c =
+    hears_owned g.P.Slots.held g.P.Slots.exact c.args.from (g.P.Slots.slots c.args.pool.now) (g.P.Slots.holds c.args.pool.now) c.args.parts.now c.requires.sound c.args.alert _ c.in-Edge.is
+    (g.P.Slots.slots c.edge.new.pool) (g.P.Slots.holds c.edge.new.pool) c.edge.new.owner c.edge.new.scribe refl c.in_ok-edge-in-Edge.ensures
 
 pub returns-in-Join : goal.returns-in-Join
 returns-in-Join g c =
@@ -61,9 +66,6 @@ pub returns-in-Gone : goal.returns-in-Gone
 returns-in-Gone g c =
     hears_served g.P.Slots.held g.P.Slots.exact c.args.from (g.P.Slots.slots c.args.pool.now) (g.P.Slots.holds c.args.pool.now) c.args.parts.now c.requires.sound c.args.alert _ c.in-Gone.is
     c.gone.new.self c.gone.new.scribe c.requires.fits (record { fit = λ s. tt; none = λ s. refl }) (c.in_ok-gone-in-Gone.ensures.serves c.args.from) (c.in_ok-gone-in-Gone.ensures.own g.P.Slots.held) (c.in_ok-gone-in-Gone.ensures.held g.P.Slots.held)
-
-pub returns-in-Edge : goal.returns-in-Edge
-returns-in-Edge g c = hears_none g.P.Slots.held g.P.Slots.exact c.args.from (g.P.Slots.slots c.args.pool.now) (g.P.Slots.holds c.args.pool.now) c.args.parts.now c.requires.sound c.args.alert _ c.in-Edge.is c.requires.fits (record { fit = λ s. tt; none = λ s. refl }) refl
 
 pub returns : goal.returns
 returns g c = hears_none g.P.Slots.held g.P.Slots.exact c.args.from (g.P.Slots.slots c.args.pool.now) (g.P.Slots.holds c.args.pool.now) c.args.parts.now c.requires.sound c.args.alert _ c.in-Delete.is c.requires.fits (record { fit = λ s. tt; none = λ s. refl }) refl

@@ -1,10 +1,10 @@
-use Rattle.std.proofs.Common.{refl}
+use Rattle.std.proofs.Common.{subst}
+use Rattle.std.specs.List.{AllByRecursion}
 use Rattle.nc_owner.specs.OtherSteps.{touched_of}
-use Rattle.nc_owner.proofs.Firsts.{look_tells}
+use Rattle.nc_owner.specs.State.{OwnerAt}
+use Rattle.nc_owner.specs.TouchedLook.{CarriesSeen}
 use Rattle.nc_owner.proofs.owner.Owner.look.Goals as goal
 
-pub returns-clause-first : goal.returns-clause-first
-returns-clause-first g c =
-    look_tells c.args.from c.args.number c.args.after (g.P.Slots.slots c.open.new.pool) c.args.self.now.desk.me c.self-2.inside.desk _ c.open.new.self c.in_ok-channel.channel
-    (touched_of c.args.chan (g.P.Slots.slots c.args.pool.now c.args.self.now.desk.me) c.args.self.now) c.new-alerts.result c.push.new.self c.in_ok-out.out
-    c.self-2.view_is c.in_ok-channel.ensures.bench refl c.new-alerts.ensures c.in_ok-push.ensures.ok c.in_ok-out.ensures.alert
+pub returns-clause-carries : goal.returns-clause-carries
+returns-clause-carries g c =
+    subst (λ (s : OwnerAt). AllByRecursion (CarriesSeen g.P.Slots.held c.args.after (touched_of c.args.chan (g.P.Slots.slots c.args.pool.now s.desk.me) s)) c.in_ok-done.done.alerts) c.in_ok-raise_told.ensures.owner c.in_ok-done.ensures.carries
