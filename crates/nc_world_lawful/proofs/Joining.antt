@@ -7,6 +7,7 @@ use Rattle.nc_world_standing.proofs.Stepping.{histories_stand}
 use Rattle.nc_world_sends.proofs.Sending.{histories_send_lawfully}
 use Rattle.nc_world_sends.proofs.Lawful.{histories_start_lawfully}
 use Rattle.nc_world_awaits.proofs.Quieting.{histories_rest}
+use Rattle.nc_world_sent_holds.proofs.Rule.{histories_keep_slot_rule}
 use Rattle.nc_world_follows.specs.Laws.{FitLinesReach}
 use Rattle.nc_world_follows.proofs.Following.{journal_follows}
 use Rattle.nc_world_follows.proofs.Cutting.{owners_rule_holds}
@@ -25,6 +26,7 @@ histories_are_lawful setup h world is reached = record {
 pub journals_are_lawful : FitLinesReach → JournalsAreLawful
 journals_are_lawful reach setup lines is fit = record {
   lawful = histories_are_lawful setup (joined (journal_of setup lines)) (lines_world setup lines) is (reach setup lines fit);
+  held = histories_keep_slot_rule setup (joined (journal_of setup lines)) (lines_world setup lines) is (reach setup lines fit);
   follows = journal_follows reach setup lines is fit;
   owners = owners_rule_holds reach setup lines is fit;
 }

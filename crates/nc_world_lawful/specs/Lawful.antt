@@ -1,5 +1,6 @@
 -- Histories of several workers are lawful.
 use Rattle.std.specs.Prelude.{ℕ, List}
+use Rattle.nc_journal.specs.Holding.{IsSlotRule}
 use Rattle.nc_journal.specs.Lawful.{IsLawful}
 use Rattle.nc_journal.specs.declared.event.Event.{Event}
 use Rattle.nc_history.specs.Steps.{joined}
@@ -15,9 +16,10 @@ use Rattle.nc_world_follows.specs.Fitting.{AreFit}
 abbrev pub HistoriesAreLawful : Type 0
 HistoriesAreLawful = (setup : Setup) (h : List Event) (world : World) → IsSetup setup → Reached setup h world → IsLawful setup.workers h
 
--- the journal of some lines is lawful, follows them, and the owners' steps stand in it
+-- the journal of some lines is lawful, keeps the slot rule, follows them, and the owners' steps stand in it
 pub record IsLawfulJournal (setup : Setup) (lines : List Line) (journal : List (List Event)) : Type 0 where
   pub lawful : IsLawful setup.workers (joined journal)
+  pub held : IsSlotRule setup.workers setup.slots (joined journal)
   pub follows : Follows setup lines journal
   pub owners : IsOwnersRule setup journal
 
