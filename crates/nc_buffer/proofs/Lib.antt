@@ -1,3 +1,9 @@
 pub mod Firsts
 pub mod Rising
 pub mod BufferLaws
+pub mod Tells
+pub mod Rows
+pub mod Leaves
+pub mod Climb
+pub mod Slots
+pub mod Ops

@@ -1,2 +1,5 @@
 pub mod Buffer
 pub mod Laws
+pub mod Marks
+pub mod Trees
+pub mod Index

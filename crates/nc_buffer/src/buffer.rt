@@ -1,45 +1,66 @@
 //! Buffers, which contracts see as lists of entries, the oldest first.
-ghost use Rattle.std.specs.Prelude.{◌≡◌, ◌<◌, ◌∷◌, ◌++◌, [], length, find, IfSome, OnOk, OnErr, Some};
+ghost use Rattle.std.specs.Prelude.{◌≡◌, ◌<◌, ◌∷◌, ◌++◌, [], length, find, IfSome, IsSome, OnOk, OnErr, Some, None, false, slice_index_or};
 ghost use Rattle.std.specs.List.{position, slice_get};
 ghost use Rattle.nc_buffer.specs.Buffer.{IsRising, StaysRising, IsPastAll, LosesTaken, is_expired, is_spent, first_past, without_first, oldest, without_oldest, with_grant};
+ghost use Rattle.nc_buffer.specs.Marks.{no_mark, passes, tells, kept, Shows};
 
 use crate::entry::Entry;
+use crate::mark::{Mark, Sought};
+use crate::tree::Tree;
 use nc_types::{MsgId, NoMemory};
 use std::alloc::Global;
 use std::marker::Model;
 
 /// The kept messages of one channel, in ascending order of id.
 ///
-/// Only [`store`](Buffer::store) takes memory.
+/// Only [`store`](Buffer::store) takes memory. Each entry lies in a slot, behind the slots of the older ones, and stays there;
+/// the slot of one that was taken out is left until there is no room behind the others.
+/// By a tree of marks of the slots what is sought is found by halves.
 #[derive(Drop)]
 pub struct Buffer {
-    entries: Vec<Entry>,
+    slots: Vec<Option<Entry>>,
+    tree: Tree,
 }
 
 impl Model for Buffer {
     ghost use Rattle.std.specs.Prelude.{List as Items};
     ghost use Rattle.nc_buffer.specs.declared.entry.Entry.{Entry as EntryAt};
-    ghost use Rattle.nc_buffer.specs.Buffer.{IsRising};
+    ghost use Rattle.nc_buffer.specs.Marks.{kept};
+    ghost use Rattle.nc_buffer.specs.Index.{IsIndexed};
 
     ghost Value = { Items EntryAt };
 
-    ghost view = { λ b. b.entries.items };
+    ghost view = { λ b. kept b.slots.items };
 
-    ghost invariant = { λ b. IsRising b.entries.items };
+    ghost invariant = { λ b. IsIndexed b.slots.items b.tree };
 }
 
-/// The place of the oldest entry that expires at or before the second `now`.
-fn first_expired(entries: &[Entry], now: u64) -> Option<usize>
-    ensures { result ≡ position (is_expired now) entries.now }
+/// Makes room for a slot more, if there is none: the slots that keep nothing go, and the others get a tree with twice as many leaves at least.
+fn make_room(slots: &mut Vec<Option<Entry>>, tree: &mut Tree) -> Result<(), NoMemory>
+    requires { Shows slots.old.items tree.old }
+    ensures shown { Shows slots.new.items tree.new }
+    ensures kept { kept slots.new.items ≡ kept slots.old.items }
+    ensures room { OnOk result (length slots.new.items < length tree.new) }
 {
-    entries.iter().position(|entry| entry.is_expired(now))
+    if slots.len() < tree.len() {
+        return Ok(());
+    }
+    let fresh = tree.fresh(tree.kept())?;
+    slots.retain(|slot| slot.is_some());
+    *tree = fresh.filled(slots);
+    Ok(())
 }
 
-/// The place of the oldest entry that is spent.
-fn first_spent(entries: &[Entry]) -> Option<usize>
-    ensures { result ≡ position is_spent entries.now }
+/// The entry that a slot keeps.
+fn entry_in(slots: &[Option<Entry>], leaf: usize) -> Entry
+    requires within { leaf < length slots.now }
+    requires entry { IsSome (slice_index_or slots.now leaf None) }
+    ensures { slice_index_or slots.now leaf None ≡ Some result }
 {
-    entries.iter().position(|entry| entry.is_spent())
+    match slots[leaf] {
+        Some(entry) => entry,
+        None => unreachable!(),
+    }
 }
 
 impl Buffer {
@@ -48,7 +69,8 @@ impl Buffer {
         ensures { result ≡ [] }
     {
         Buffer {
-            entries: Vec::new(alloc),
+            slots: Vec::new(alloc),
+            tree: Tree::new(alloc),
         }
     }
 
@@ -59,7 +81,10 @@ impl Buffer {
         ensures err { OnErr result (self.new ≡ self.old) }
         ensures rising { StaysRising self.old self.new }
     {
-        self.entries.push(entry)?;
+        make_room(&mut self.slots, &mut self.tree)?;
+        let leaf = self.slots.len();
+        self.slots.push(Some(entry))?;
+        self.tree.put(leaf, Mark::of(&entry));
         Ok(())
     }
 
@@ -68,7 +93,7 @@ impl Buffer {
         ensures count { result ≡ length self.now }
         ensures rising { IsRising self.now }
     {
-        self.entries.len()
+        self.tree.kept()
     }
 
     /// The entry at a place, counted from the oldest, which is at 0.
@@ -77,7 +102,8 @@ impl Buffer {
         ensures at { slice_get self.now place ≡ Some result }
         ensures rising { IsRising self.now }
     {
-        self.entries[place]
+        let leaf = self.tree.leaf_of(place);
+        entry_in(&self.slots, leaf)
     }
 
     /// The place of the oldest entry past an id, if there is one.
@@ -86,7 +112,9 @@ impl Buffer {
         ensures within { IfSome result (λ place. place < length self.now) }
         ensures rising { IsRising self.now }
     {
-        self.entries.iter().position(|entry| entry.id.past(after))
+        let sought = Sought::past(after);
+        let found = self.tree.first(&sought)?;
+        Some(found.place)
     }
 
     /// Counts one grant more of the entry at a place.
@@ -96,7 +124,23 @@ impl Buffer {
         ensures counted { self.new ≡ with_grant place self.old }
         ensures rising { StaysRising self.old self.new }
     {
-        self.entries[place].grants += 1;
+        let leaf = self.tree.leaf_of(place);
+        let mut entry = entry_in(&self.slots, leaf);
+        entry.grants += 1;
+        self.slots[leaf] = Some(entry);
+        self.tree.put(leaf, Mark::of(&entry));
+    }
+
+    /// Takes out the oldest entry that is sought, if there is one.
+    fn take(&mut self, sought: Sought) -> Option<Entry>
+        requires { tells sought no_mark ≡ false }
+        ensures taken { result ≡ find (passes sought) self.old }
+        ensures kept { self.new ≡ without_first (passes sought) self.old }
+        ensures rising { StaysRising self.old self.new }
+    {
+        let found = self.tree.first(&sought)?;
+        self.tree.put(found.leaf, Mark::none());
+        self.slots[found.leaf].take()
     }
 
     /// Takes out the oldest entry that expires at or before the second `now`, if there is one.
@@ -106,8 +150,7 @@ impl Buffer {
         ensures fewer { LosesTaken result self.old self.new }
         ensures rising { StaysRising self.old self.new }
     {
-        let place = first_expired(&self.entries, now)?;
-        Some(self.entries.remove(place))
+        self.take(Sought::Expired(now))
     }
 
     /// Takes out the oldest entry that was granted [`MOST_GRANTS`](crate::MOST_GRANTS) times, if there is one.
@@ -117,8 +160,7 @@ impl Buffer {
         ensures fewer { LosesTaken result self.old self.new }
         ensures rising { StaysRising self.old self.new }
     {
-        let place = first_spent(&self.entries)?;
-        Some(self.entries.remove(place))
+        self.take(Sought::Spent)
     }
 
     /// Takes out the oldest entry, if there is one.
@@ -128,9 +170,6 @@ impl Buffer {
         ensures fewer { LosesTaken result self.old self.new }
         ensures rising { StaysRising self.old self.new }
     {
-        if self.entries.is_empty() {
-            return None;
-        }
-        Some(self.entries.remove(0))
+        self.take(Sought::Any)
     }
 }

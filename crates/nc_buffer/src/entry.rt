@@ -1,6 +1,6 @@
 //! What a buffer keeps of one message.
 ghost use Rattle.std.specs.Prelude.{◌≡◌};
-ghost use Rattle.nc_buffer.specs.Buffer.{is_expired, is_spent};
+ghost use Rattle.nc_buffer.specs.Buffer.{is_spent};
 
 use nc_types::MsgId;
 
@@ -18,13 +18,6 @@ pub struct Entry {
 }
 
 impl Entry {
-    /// Whether the entry expires at or before the second `now`.
-    pub(crate) fn is_expired(&self, now: u64) -> bool
-        ensures { result ≡ is_expired now self.now }
-    {
-        self.expires != 0 && self.expires <= now
-    }
-
     /// Whether the entry is spent: it can't be granted once more.
     pub(crate) fn is_spent(&self) -> bool
         ensures { result ≡ is_spent self.now }

@@ -8,6 +8,8 @@
 mod buffer;
 mod entry;
 pub mod laws;
+mod mark;
+mod tree;
 
 pub use buffer::Buffer;
 pub use entry::{Entry, MOST_GRANTS};

@@ -1,18 +1,53 @@
-use Rattle.std.proofs.Common.{◌∙◌, ap, sym, subst}
-use Rattle.nc_buffer.specs.Buffer.{IsRising, with_grant}
-use Rattle.nc_buffer.proofs.Firsts.{set-granted}
-use Rattle.nc_buffer.proofs.Rising.{rising-grant}
+use Rattle.std.proofs.Common.{rules, ◌≡◌, ◌<◌, List, length, get_or, set, Option, None, Some, IfSome, refl, sym, ap, ◌∙◌, subst, arith}
+use Rattle.std.specs.List.{slice_get}
+use Rattle.nc_buffer.specs.declared.entry.Entry.{Entry}
+use Rattle.nc_buffer.specs.Buffer.{StaysRising, granted, with_grant}
+use Rattle.nc_buffer.specs.Marks.{kept}
+use Rattle.nc_buffer.proofs.Slots.{kept-length, slot-at, entry-at, within-slots}
+use Rattle.nc_buffer.proofs.Ops.{grants}
 use Rattle.nc_buffer.proofs.buffer.Buffer.count_grant.Goals as goal
+
+pub leaf_of-leaf-requires : goal.leaf_of-leaf-requires
+leaf_of-leaf-requires c =
+    let count = kept-length c.self.inside.slots.items c.self.inside.tree c.self.invariant.shown in
+    let view = ap length c.self.view_is in
+    omega (arith, count, view, c.requires.place)
+
+pub entry_in-entry-requires-clause-within : goal.entry_in-entry-requires-clause-within
+entry_in-entry-requires-clause-within c =
+    let slot = slot-at c.self.inside.slots.items c.self.inside.tree c.leaf_of-leaf.result c.args.place c.self.invariant.shown c.leaf_of-leaf.ensures.before c.leaf_of-leaf.ensures.behind in
+    rw c.deref.ensures.value (within-slots c.self.inside.slots.items c.leaf_of-leaf.result slot.1.0 slot.1.1)
+
+pub entry_in-entry-requires-clause-entry : goal.entry_in-entry-requires-clause-entry
+entry_in-entry-requires-clause-entry c =
+    let slot = slot-at c.self.inside.slots.items c.self.inside.tree c.leaf_of-leaf.result c.args.place c.self.invariant.shown c.leaf_of-leaf.ensures.before c.leaf_of-leaf.ensures.behind in
+    rw (c.deref.ensures.value, slot.1.1) refl
+
+pub overflow_add-entry : goal.overflow_add-entry
+overflow_add-entry c =
+    let slot = slot-at c.self.inside.slots.items c.self.inside.tree c.leaf_of-leaf.result c.args.place c.self.invariant.shown c.leaf_of-leaf.ensures.before c.leaf_of-leaf.ensures.behind in
+    let at : slice_get c.args.self.now c.args.place ≡ Some c.entry_in-entry.result = ap (λ l. slice_get l c.args.place) (sym c.self.view_is) ∙ ap (slice_get (kept c.self.inside.slots.items)) slot.0
+    ∙ entry-at c.self.inside.slots.items c.self.inside.tree c.leaf_of-leaf.result c.entry_in-entry.result c.self.invariant.shown (ap (λ l. get_or l c.leaf_of-leaf.result None) (sym c.deref.ensures.value) ∙ c.entry_in-entry.ensures) in
+    let unspent : c.entry_in-entry.result.grants < 4294967295 = subst (λ (o : Option Entry). IfSome o (λ e. e.grants < 4294967295)) at c.requires.unspent in
+    search rules
 
 pub invariant_of-self : goal.invariant_of-self
 invariant_of-self c =
-    subst IsRising (sym (set-granted _ _ _ (rw c.self.view_is c.requires.place) c.index_mut.ensures.value)) (rising-grant c.args.place _ c.self.invariant)
+    let slot = slot-at c.self.inside.slots.items c.self.inside.tree c.leaf_of-leaf.result c.args.place c.self.invariant.shown c.leaf_of-leaf.ensures.before c.leaf_of-leaf.ensures.behind in
+    let is = ap (λ l. get_or l c.leaf_of-leaf.result None) (sym c.deref.ensures.value) ∙ c.entry_in-entry.ensures in
+    let g = grants c.self.inside.slots.items c.self.inside.tree c.leaf_of-leaf.result c.args.place c.entry_in-entry.result c.self.invariant (within-slots c.self.inside.slots.items c.leaf_of-leaf.result slot.1.0 slot.1.1) is slot.0 in
+    rw (c.put.ensures, c.of.ensures) g.indexed
 
 pub returns-clause-counted : goal.returns-clause-counted
-returns-clause-counted c = set-granted _ _ _ (rw c.self.view_is c.requires.place) c.index_mut.ensures.value ∙ ap (with_grant c.args.place) c.self.view_is
+returns-clause-counted c =
+    let slot = slot-at c.self.inside.slots.items c.self.inside.tree c.leaf_of-leaf.result c.args.place c.self.invariant.shown c.leaf_of-leaf.ensures.before c.leaf_of-leaf.ensures.behind in
+    let is = ap (λ l. get_or l c.leaf_of-leaf.result None) (sym c.deref.ensures.value) ∙ c.entry_in-entry.ensures in
+    let g = grants c.self.inside.slots.items c.self.inside.tree c.leaf_of-leaf.result c.args.place c.entry_in-entry.result c.self.invariant (within-slots c.self.inside.slots.items c.leaf_of-leaf.result slot.1.0 slot.1.1) is slot.0 in
+    g.counted ∙ ap (with_grant c.args.place) c.self.view_is
 
 pub returns-clause-rising : goal.returns-clause-rising
-returns-clause-rising c = record {
-  before = subst IsRising c.self.view_is c.self.invariant;
-  after = subst IsRising (sym (set-granted _ _ _ (rw c.self.view_is c.requires.place) c.index_mut.ensures.value)) (rising-grant c.args.place _ c.self.invariant);
-}
+returns-clause-rising c =
+    let slot = slot-at c.self.inside.slots.items c.self.inside.tree c.leaf_of-leaf.result c.args.place c.self.invariant.shown c.leaf_of-leaf.ensures.before c.leaf_of-leaf.ensures.behind in
+    let is = ap (λ l. get_or l c.leaf_of-leaf.result None) (sym c.deref.ensures.value) ∙ c.entry_in-entry.ensures in
+    let g = grants c.self.inside.slots.items c.self.inside.tree c.leaf_of-leaf.result c.args.place c.entry_in-entry.result c.self.invariant (within-slots c.self.inside.slots.items c.leaf_of-leaf.result slot.1.0 slot.1.1) is slot.0 in
+    subst (λ (l : List Entry). StaysRising l (kept (set c.self.inside.slots.items c.leaf_of-leaf.result (Some (granted c.entry_in-entry.result))))) c.self.view_is g.rising
