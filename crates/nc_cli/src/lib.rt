@@ -1,11 +1,17 @@
 //! The words of the command line, and the command that they are.
 //!
-//! The top call stands above. Below stands std alone.
+//! The top call stands above. Below stands `nc_types`, which reads numbers.
 //! `specs/Words.antt` says which words are a command, and what the usage is.
 #![tactic(auto)]
 
-ghost use Rattle.std.specs.Prelude.{◌≡◌, ◌↔◌, ◌∷◌, [], map, string_bytes, IsTrue};
+ghost use Rattle.std.specs.Prelude.{◌≡◌, ◌≤◌, ◌<◌, ◌∷◌, ◌↔◌, [], map, string_bytes, codes, IsTrue, IfSome, IfNone, ℕ};
+ghost use Rattle.nc_types.specs.Text.{IsDecimal};
 ghost use Rattle.nc_cli.specs.Words.{IsRead, OneCommand, usage_text};
+
+use nc_types::text::read_decimal;
+
+/// The greatest size of a load.
+const GREATEST_SIZE: u64 = 65_535;
 
 /// A command of the program.
 #[derive(Clone, Copy, Debug, PartialEq, Eq)]
@@ -14,6 +20,8 @@ pub enum Command {
     Replay,
     /// `check`: whether a configuration is accepted.
     Check,
+    /// `load SEED SIZE`: what comes of a script that is made from two numbers, the size from 1 to 65,535.
+    Load { seed: u64, size: u32 },
     /// The words are no command, so that the usage is printed.
     Usage,
 }
@@ -36,12 +44,44 @@ fn read_word(word: &String) -> Command
     Command::Usage
 }
 
+/// The size of a load.
+fn read_size(word: &String) -> Option<u32>
+    ensures some { IfSome result (λ n. IsDecimal (string_bytes word.now) n × (1 ≤ n) × (n ≤ 65535)) }
+    ensures none { IfNone result ((n : ℕ) → IsDecimal (string_bytes word.now) n → 1 ≤ n → n ≤ 65535 → ⊥) }
+{
+    let n = read_decimal(word.as_bytes(), GREATEST_SIZE)?;
+    if n == 0 { None } else { Some(n as u32) }
+}
+
+/// The load of a seed and a size, or the usage where one of them can't be read.
+fn read_load(seed: &String, size: &String) -> Command
+    ensures { IsRead (codes "load" ∷ string_bytes seed.now ∷ string_bytes size.now ∷ []) result }
+{
+    let Some(seed) = read_decimal(seed.as_bytes(), u64::MAX) else {
+        return Command::Usage;
+    };
+    let Some(size) = read_size(size) else {
+        return Command::Usage;
+    };
+    Command::Load { seed, size }
+}
+
+fn read_three(name: &String, seed: &String, size: &String) -> Command
+    ensures { IsRead (string_bytes name.now ∷ string_bytes seed.now ∷ string_bytes size.now ∷ []) result }
+{
+    if is_word(name, b"load") {
+        return read_load(seed, size);
+    }
+    Command::Usage
+}
+
 /// The command that the words behind the program's name are.
 pub fn read_words(words: &[String]) -> Command
     ensures { IsRead (map string_bytes words.now) result }
 {
     match words {
         [word] => read_word(word),
+        [name, seed, size] => read_three(name, seed, size),
         _ => Command::Usage,
     }
 }

@@ -1,16 +1,15 @@
 -- What the status has to be for the text of the input, and that the words are one command.
 use Rattle.std.proofs.Common.{◌≡◌, ◌⊎◌, inl, inr, ℕ, ◌<◌, List, length, refl, sym, subst, ap, arith, Option, Some, None}
 use Rattle.std.specs.Prelude.{IfSome}
-use Rattle.nc_cli.specs.Words.{IsCommand, IsRead}
-use Rattle.nc_cli.specs.declared.Command.{Command}
-use Rattle.nc_cli.specs.declared.Command.TheVariants.{Replay, Check, Usage}
+use Rattle.nc_replay.specs.declared.command.Task.{Task}
+use Rattle.nc_replay.specs.declared.command.Task.TheVariants.{Replay, Check, Usage}
 use Rattle.nc_conf.specs.Answer.{NeverBoth}
 use Rattle.nc_outside.specs.Pieces.{GivesMore}
 use Rattle.nc_outside.proofs.Pieces.{gives_once, gives_all_once, never_goes_on}
 use Rattle.nc_replay.specs.Script.{IsMisconfigured, IsFaulty}
 use Rattle.nc_replay.specs.Sure.{IsNeverBoth, NeverFails, NeverWears, FailsOrWears}
 use Rattle.nc_replay.specs.Input.{longest_input, ReadsAll, ReadsUpTo, ReadsSome}
-use Rattle.nc_replay.specs.Top.{IsReplay, IsCheck, IsStatus, IsStopped, IsUnread, Passes, Fails, Wears, RefusedBy, WornBy, PassedBy, MisconfiguredBy, RejectedBy, OfAllInput, MustBeShort, Replays, Refuses, WearsOut, Misconfigures, Accepts}
+use Rattle.nc_replay.specs.Top.{IsReplay, IsCheck, IsRun, IsTask, IsStatus, IsStopped, IsUnread, Passes, Fails, Wears, RefusedBy, WornBy, PassedBy, MisconfiguredBy, RejectedBy, OfAllInput, MustBeShort, Replays, Refuses, WearsOut, Misconfigures, Accepts}
 
 -- by the status, what is to hold or the work stopped
 by_status : (n : ℕ) (P : Type 0) → IsStatus n → (n ≡ 0 → P ⊎ IsStopped n) → (n ≡ 2 → ⊥) → (n ≡ 3 → P ⊎ IsStopped n) → (n ≡ 8 → P ⊎ IsStopped n) → (n ≡ 9 → P ⊎ IsStopped n) → P ⊎ IsStopped n
@@ -173,18 +172,18 @@ replay-not-check words replay check = absurd (cc)
 pub not-replay : (words : List (List ℕ)) → IsCheck words → IsReplay words → ⊥
 not-replay words check replay = replay-not-check words replay check
 
-pub is_replay : (words : List (List ℕ)) (command : Command) → IsRead words command → IsReplay words → command ≡ Replay
+pub is_replay : (words : List (List ℕ)) (command : Task) → IsTask words command → IsReplay words → command ≡ Replay
 is_replay words Replay read is = refl
 is_replay words Check read is = absurd (replay-not-check words is read)
 is_replay words Usage read is = absurd (read (inl is))
 
-pub is_check : (words : List (List ℕ)) (command : Command) → IsRead words command → IsCheck words → command ≡ Check
+pub is_check : (words : List (List ℕ)) (command : Task) → IsTask words command → IsCheck words → command ≡ Check
 is_check words Replay read is = absurd (replay-not-check words read is)
 is_check words Check read is = refl
 is_check words Usage read is = absurd (read (inr is))
 
-pub as_replay : (words : List (List ℕ)) (command : Command) → IsRead words command → command ≡ Replay → IsReplay words
-as_replay words command read is = subst (λ (k : Command). IsRead words k) is read
+pub as_replay : (words : List (List ℕ)) (command : Task) → IsTask words command → command ≡ Replay → IsReplay words
+as_replay words command read is = subst (λ (k : Task). IsTask words k) is read
 
-pub as_usage : (words : List (List ℕ)) (command : Command) → IsRead words command → command ≡ Usage → IsCommand words → ⊥
-as_usage words command read is = subst (λ (k : Command). IsRead words k) is read
+pub as_usage : (words : List (List ℕ)) (command : Task) → IsTask words command → command ≡ Usage → IsRun words → ⊥
+as_usage words command read is = subst (λ (k : Task). IsTask words k) is read

@@ -11,6 +11,8 @@ use Rattle.nc_replay.specs.declared.fault.Fault.{Fault}
 use Rattle.nc_replay.specs.declared.fault.Misconfigured.{Misconfigured as ConfigFault}
 use Rattle.nc_replay.specs.declared.command.End.{End}
 use Rattle.nc_replay.specs.declared.command.End.TheVariants.{Passed, Refused, Misconfigured, WornOut}
+use Rattle.nc_replay.specs.declared.command.Task.{Task}
+use Rattle.nc_replay.specs.declared.command.Task.TheVariants.{Replay, Check, Usage}
 use Rattle.nc_replay.specs.declared.check.Verdict.{Verdict}
 use Rattle.nc_replay.specs.declared.check.Verdict.TheVariants.{Accepted, Rejected}
 use Rattle.nc_replay.specs.Script.{IsConfigured, IsFaulty, IsMisconfigured}
@@ -24,6 +26,16 @@ IsReplay words = words ≡ codes "replay" ∷ []
 
 abbrev pub IsCheck : List (List ℕ) → Type 0
 IsCheck words = words ≡ codes "check" ∷ []
+
+-- the words are a command that the top call runs
+abbrev pub IsRun : List (List ℕ) → Type 0
+IsRun words = IsReplay words ⊎ IsCheck words
+
+-- what the top call does for some words; it writes the usage where it runs nothing
+abbrev pub IsTask : List (List ℕ) → Task → Type 0
+IsTask words Replay = IsReplay words
+IsTask words Check = IsCheck words
+IsTask words Usage = IsRun words → ⊥
 
 -- all lines of a script are made, as its configuration sets, and this is their history
 pub record Passes (first : ℕ) (script : List ℕ) (h : List Event) : Type 0 where

@@ -4,10 +4,10 @@
 //! lines, and the check of a configuration.
 ghost use Rattle.std.specs.Prelude.{◌≡◌, ◌≢◌, ◌≤◌, ◌⊎◌, ◌+◌, length, map, string_bytes, IfOk, IfErr, OnOk, OnErr};
 ghost use Rattle.nc_outside.specs.Fault.{HasRisen};
-ghost use Rattle.nc_cli.specs.Words.{IsCommand, usage_text};
-ghost use Rattle.nc_cli.specs.declared.Command.TheVariants.{Replay, Check, Usage};
+ghost use Rattle.nc_cli.specs.Words.{usage_text};
+ghost use Rattle.nc_replay.specs.declared.command.Task.TheVariants.{Replay, Check, Usage};
 ghost use Rattle.nc_replay.specs.Input.{longest_input, ReadsUpTo, ReadsTooMuch, ReadsSome, HasStopped, IsCalm, Adds, AddsPrefix};
-ghost use Rattle.nc_replay.specs.Top.{IsReplay, IsCheck, Replays, Refuses, WearsOut, Misconfigures, Accepts, Rejects, CutsOff, CutsOffCheck};
+ghost use Rattle.nc_replay.specs.Top.{IsReplay, IsCheck, IsRun, IsTask, Replays, Refuses, WearsOut, Misconfigures, Accepts, Rejects, CutsOff, CutsOffCheck};
 ghost use Rattle.nc_replay.specs.Top.{EndsAs, CutsOffSome, IsStatus, IsUnread, OfAllInput, PassedBy, RefusedBy, WornBy, MisconfiguredBy, RejectedBy, MustBeShort};
 
 use crate::answer::{write_fault, write_misconfigured};
@@ -121,8 +121,26 @@ pub fn replay<S: Source, K: Sink>(alloc: Global, first: u64, input: &mut S, out:
     }
 }
 
+/// What the top call does for some words. It makes no load: the usage is for those words too.
+#[derive(Clone, Copy, Debug, PartialEq, Eq)]
+enum Task {
+    Replay,
+    Check,
+    Usage,
+}
+
+fn task_of(words: &[String]) -> Task
+    ensures { IsTask (map string_bytes words.now) result }
+{
+    match read_words(words) {
+        Command::Replay => Task::Replay,
+        Command::Check => Task::Check,
+        Command::Load { .. } | Command::Usage => Task::Usage,
+    }
+}
+
 /// Runs a command, and gives the exit status.
-fn run<S: Source, K: Sink>(alloc: Global, command: Command, input: &mut S, out: &mut K) -> u8
+fn run<S: Source, K: Sink>(alloc: Global, command: Task, input: &mut S, out: &mut K) -> u8
     ensures status { IsStatus result }
     ensures passed { command ≡ Replay → result ≡ 0
         → Replays 0 (S.left input.old) (S.left input.new) (S.given input.old) (S.given input.new)
@@ -172,9 +190,9 @@ fn run<S: Source, K: Sink>(alloc: Global, command: Command, input: &mut S, out: 
     ensures silent { (result ≡ 4) ⊎ (result ≡ 7) → K.taken out.new ≡ K.taken out.old }
 {
     match command {
-        Command::Replay => replay(alloc, 0, input, out),
-        Command::Check => check(alloc, input, out),
-        Command::Usage => match write_all(out, usage()) {
+        Task::Replay => replay(alloc, 0, input, out),
+        Task::Check => check(alloc, input, out),
+        Task::Usage => match write_all(out, usage()) {
             Ok(()) => 2,
             Err(_) => 5,
         },
@@ -186,7 +204,7 @@ fn run<S: Source, K: Sink>(alloc: Global, command: Command, input: &mut S, out: 
 /// Both commands read the whole input first, at most 67,108,864 bytes.
 /// `replay` writes the journal of a script's lines, and `check` says whether a configuration is accepted:
 /// - 0: every line was made, or the configuration is accepted and `ok workers=N locations=M` was written;
-/// - 2: the words are no command, and the usage was written;
+/// - 2: the words are neither, and the usage was written;
 /// - 3: a line breaks a rule, and `fault line=L rule=R at=P` stands behind the journal of those before it;
 /// - 4: the source failed; 5: the sink failed or took nothing; 6: there was no memory; 7: the input is longer;
 /// - 8: the configuration is refused, and `config rule=R at=P` was written;
@@ -204,10 +222,10 @@ pub fn top<S: Source, K: Sink>(alloc: Global, words: &[String], input: &mut S, o
         → Accepts (S.left input.old) (S.left input.new) (S.given input.old) (S.given input.new)
         (K.taken out.old) (K.taken out.new) }
 
-    // 2 comes exactly where the words are no command, but where the usage can't be written; the input isn't touched.
-    ensures usage { result ≡ 2 → (IsCommand (map string_bytes words.now) → ⊥) × Adds usage_text (K.taken out.old) (K.taken out.new) }
-    ensures usage_always { (IsCommand (map string_bytes words.now) → ⊥) → (result ≡ 2) ⊎ (result ≡ 5) }
-    ensures untouched { (IsCommand (map string_bytes words.now) → ⊥) → input.new ≡ input.old }
+    // 2 comes exactly where the words are neither command, but where the usage can't be written; the input isn't touched.
+    ensures usage { result ≡ 2 → (IsRun (map string_bytes words.now) → ⊥) × Adds usage_text (K.taken out.old) (K.taken out.new) }
+    ensures usage_always { (IsRun (map string_bytes words.now) → ⊥) → (result ≡ 2) ⊎ (result ≡ 5) }
+    ensures untouched { (IsRun (map string_bytes words.now) → ⊥) → input.new ≡ input.old }
 
     // 3 comes exactly at the first line of a script that breaks a rule, but where the work stopped.
     ensures refused { result ≡ 3 → IsReplay (map string_bytes words.now) ×
@@ -251,7 +269,7 @@ pub fn top<S: Source, K: Sink>(alloc: Global, words: &[String], input: &mut S, o
     ensures check_cut_off { IsCheck (map string_bytes words.now) → result ≡ 5
         → CutsOffCheck (S.left input.old) (S.left input.new) (S.given input.old) (S.given input.new)
         (K.taken out.old) (K.taken out.new) }
-    ensures usage_cut_off { (IsCommand (map string_bytes words.now) → ⊥) → result ≡ 5
+    ensures usage_cut_off { (IsRun (map string_bytes words.now) → ⊥) → result ≡ 5
         → AddsPrefix usage_text (K.taken out.old) (K.taken out.new) }
 
     // 6 leaves nothing, or a prefix of the text of a lawful journal.
@@ -262,14 +280,14 @@ pub fn top<S: Source, K: Sink>(alloc: Global, words: &[String], input: &mut S, o
     // 7 comes exactly where the input is longer than 67,108,864 bytes, but where reading it failed; one byte more was read.
     ensures too_long { result ≡ 7 → ReadsTooMuch
         (S.left input.old) (S.left input.new) (S.given input.old) (S.given input.new) }
-    ensures too_long_always { IsCommand (map string_bytes words.now)
+    ensures too_long_always { IsRun (map string_bytes words.now)
         → MustBeShort (S.left input.old) (S.given input.old) (S.given input.new) result }
 
     // At most 67,108,865 bytes are read, and what was read is left no more; all of the input but at 4, 6 and 7.
-    ensures reads { IsCommand (map string_bytes words.now)
+    ensures reads { IsRun (map string_bytes words.now)
         → ReadsUpTo (longest_input + 1) (S.left input.old) (S.left input.new) (S.given input.old) (S.given input.new)
         ⊎ ReadsSome (S.left input.old) (S.left input.new) (S.given input.old) (S.given input.new) }
-    ensures whole { IsCommand (map string_bytes words.now)
+    ensures whole { IsRun (map string_bytes words.now)
         → IsUnread result ⊎ ReadsSome (S.left input.old) (S.left input.new) (S.given input.old) (S.given input.new) }
 
     // After 4 and 7 nothing was written.
@@ -278,5 +296,5 @@ pub fn top<S: Source, K: Sink>(alloc: Global, words: &[String], input: &mut S, o
     // no script is both configured and refused, and none ends in two ways, so 0, 3, 8 and 9 come always
     one_configuration();
     one_end();
-    run(alloc, read_words(words), input, out)
+    run(alloc, task_of(words), input, out)
 }

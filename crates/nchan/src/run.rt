@@ -1,10 +1,9 @@
 //! One run of the program, over a source that gave nothing yet and a sink that took nothing yet.
 ghost use Rattle.std.specs.Prelude.{◌≡◌, ◌≢◌, ◌⊎◌, [], map, string_bytes};
-ghost use Rattle.nc_cli.specs.Words.{IsCommand};
 ghost use Rattle.nc_outside.specs.Fault.{HasRisen};
 ghost use Rattle.nc_outside.specs.Pieces.{GivesMore};
 ghost use Rattle.nc_replay.specs.Input.{longest_input, IsCalm};
-ghost use Rattle.nc_replay.specs.Top.{IsReplay, IsCheck, IsStatus, PassedBy, RefusedBy, WornBy, MisconfiguredBy, RejectedBy};
+ghost use Rattle.nc_replay.specs.Top.{IsReplay, IsCheck, IsRun, IsStatus, PassedBy, RefusedBy, WornBy, MisconfiguredBy, RejectedBy};
 ghost use Rattle.nchan.specs.Standard.{given_by, taken_by};
 ghost use Rattle.nchan.specs.Run.{Replayed, Refused, WornOut, Misconfigured, Accepted, Rejected, Explained, OfGiven};
 ghost use Rattle.nchan.specs.Run.{Unread, TooLong, CutOff, CheckCutOff, UsageCutOff};
@@ -29,8 +28,8 @@ pub fn run<R: Read + Drop, W: Write + Drop>(
     ensures replayed_always { IsReplay (map string_bytes words.now) → OfGiven (PassedBy 0 result) (given_by input.new) }
     ensures accepted { IsCheck (map string_bytes words.now) → result ≡ 0 → Accepted (given_by input.new) (taken_by out.new) }
 
-    // 2: the words are no command.
-    ensures explained { result ≡ 2 → (IsCommand (map string_bytes words.now) → ⊥) × Explained (given_by input.new) (taken_by out.new) }
+    // 2: the words are neither command.
+    ensures explained { result ≡ 2 → (IsRun (map string_bytes words.now) → ⊥) × Explained (given_by input.new) (taken_by out.new) }
 
     // 3: a line breaks a rule; it comes always then, but where the work stopped.
     ensures refused { result ≡ 3 → IsReplay (map string_bytes words.now) × Refused (given_by input.new) (taken_by out.new) }
@@ -41,13 +40,13 @@ pub fn run<R: Read + Drop, W: Write + Drop>(
     ensures unread_cause { result ≡ 4 → HasRisen input.old.faults input.new.faults }
     ensures unread_always { result ≢ 4 → input.new.faults ≡ input.old.faults }
     ensures too_long { result ≡ 7 → TooLong (given_by input.new) (taken_by out.new) }
-    ensures too_long_always { IsCommand (map string_bytes words.now)
+    ensures too_long_always { IsRun (map string_bytes words.now)
         → GivesMore longest_input [] (given_by input.new) → (result ≡ 7) ⊎ (result ≡ 6) }
 
     // 5: the sink failed or took nothing, as a count tells, behind a prefix of what it was to take.
     ensures cut_off { IsReplay (map string_bytes words.now) → result ≡ 5 → CutOff (given_by input.new) (taken_by out.new) }
     ensures check_cut_off { IsCheck (map string_bytes words.now) → result ≡ 5 → CheckCutOff (given_by input.new) (taken_by out.new) }
-    ensures usage_cut_off { (IsCommand (map string_bytes words.now) → ⊥) → result ≡ 5
+    ensures usage_cut_off { (IsRun (map string_bytes words.now) → ⊥) → result ≡ 5
         → UsageCutOff (given_by input.new) (taken_by out.new) }
     ensures cut_cause { result ≡ 5 → HasRisen out.old.faults out.new.faults ⊎ HasRisen out.old.refusals out.new.refusals }
     ensures cut_always { result ≢ 5 → IsCalm out.old.faults out.new.faults out.old.refusals out.new.refusals }
