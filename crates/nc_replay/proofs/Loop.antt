@@ -72,6 +72,7 @@ module _ (laws : JournalsAreLawful) (setup : Setup) (good : IsSetup setup) where
     lines = lines;
     read = read;
     unworn = unworn;
+    fit = fit;
     journal = journal_of setup lines;
     lawful = laws setup lines good fit;
     one = refl;
@@ -177,6 +178,7 @@ module _ (laws : JournalsAreLawful) (setup : Setup) (good : IsSetup setup) where
                 says = says;
                 moves = moves;
                 met = met;
+                fit = told.fit;
                 journal = journal_of setup (with_moves moves lines);
                 lawful = laws setup (with_moves moves lines) good told.fit;
                 one = refl;

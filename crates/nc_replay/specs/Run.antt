@@ -7,6 +7,7 @@ use Rattle.nc_script.specs.declared.line.Line.{Line as Said}
 use Rattle.nc_worker_state.specs.Setup.{Setup}
 use Rattle.nc_world.specs.Lines.{Line, lines_world, journal_of}
 use Rattle.nc_turns.specs.Worn.{before_worn_in}
+use Rattle.nc_world_follows.specs.Fitting.{AreFit}
 use Rattle.nc_world_worn.specs.Counters.{IsWornIn, with_moves}
 use Rattle.nc_world_lawful.specs.Lawful.{IsLawfulJournal}
 use Rattle.nc_cluster.specs.Line.{pure_line}
@@ -22,11 +23,12 @@ AreUnworn setup [] = Unit {0}
 AreUnworn setup (line ∷ lines) = AreUnworn setup lines × (before_worn_in setup line (lines_world setup lines) ≡ None)
 
 -- the lines of some texts were made, and this is their history: a lawful journal follows them, in which the owners' steps stand.
--- it is the journal that the pure world makes of the lines, so that it is one, and all laws of reached worlds hold of it
+-- it is the journal that the pure world makes of the lines, so that it is one; and the lines fit, so that all laws of reached worlds hold of it
 pub record Made (setup : Setup) (texts : List (List ℕ)) (h : List Event) : Type 0 where
   pub lines : List Line
   pub read : Reads setup.workers [] texts lines
   pub unworn : AreUnworn setup lines
+  pub fit : AreFit setup lines
   pub journal : List (List Event)
   pub lawful : IsLawfulJournal setup lines journal
   pub one : journal ≡ journal_of setup lines
@@ -42,6 +44,7 @@ pub record Worn (setup : Setup) (texts : List (List ℕ)) (text : List ℕ) (h :
   pub says : (line_after setup.workers lines text).Says said
   pub moves : ℕ
   pub met : before_worn_in setup (pure_line said) (lines_world setup lines) ≡ Some moves
+  pub fit : AreFit setup (with_moves moves lines)
   pub journal : List (List Event)
   pub lawful : IsLawfulJournal setup (with_moves moves lines) journal
   pub one : journal ≡ journal_of setup (with_moves moves lines)

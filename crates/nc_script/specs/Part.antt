@@ -87,7 +87,7 @@ names word = record {
 
 -- how many distinct names a list may have
 abbrev pub most_names : ℕ
-most_names = 1
+most_names = 7
 
 -- rule 8: a list has not too many distinct names
 abbrev pub distinct_names : Word → List (List ℕ) → Judge (List (List ℕ))

@@ -23,7 +23,7 @@ const LONGEST_BODY: usize = 65_536;
 
 const LONGEST_NAME: usize = 1_024;
 
-const MOST_NAMES: usize = 1;
+const MOST_NAMES: usize = 7;
 
 /// The value of 1 to 18 digits.
 fn value(digits: &[u8]) -> Option<u64>

@@ -75,6 +75,11 @@ fn command(alloc: Global, out: &mut Vec<u8>, text: &str) -> Result<(), NoMemory>
     match read_words(&words) {
         Command::Replay => put_part(out, b"replay"),
         Command::Check => put_part(out, b"check"),
+        Command::Load { seed, size } => {
+            put_part(out, b"load")?;
+            put_number(out, seed)?;
+            put_number(out, u64::from(size))
+        }
         Command::Usage => put_part(out, b"usage"),
     }
 }

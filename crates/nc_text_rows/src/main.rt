@@ -9,6 +9,7 @@ mod buffer_rows;
 mod grammar_rows;
 mod ident_rows;
 mod list_rows;
+mod load_rows;
 mod print;
 mod script_rows;
 mod types_rows;
@@ -29,6 +30,7 @@ fn answer(alloc: Global, out: &mut Vec<u8>, row: &str) -> Result<(), NoMemory> {
         "ident" => ident_rows::answer(alloc, out, rest),
         "multi" => list_rows::answer_list(alloc, out, rest),
         "cli" => list_rows::answer_words(alloc, out, rest),
+        "load" => load_rows::answer(alloc, out, rest),
         "script" => script_rows::answer(alloc, out, rest),
         "buffer" => buffer_rows::answer(alloc, out, rest),
         _ => put_part(out, b"no crate"),
