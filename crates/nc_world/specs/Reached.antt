@@ -2,7 +2,6 @@
 use Rattle.std.specs.Prelude.{◌≡◌, ℕ, ◌<◌, ◌≤◌, false, List, [], ◌∷◌, length}
 use Rattle.nc_types.specs.Channel.{AreDistinct}
 use Rattle.nc_types.specs.declared.start.Start.{Start}
-use Rattle.nc_types.specs.declared.start.Start.TheVariants.{Oldest, Newest, Given}
 use Rattle.nc_journal.specs.History.{own, onto}
 use Rattle.nc_journal.specs.Standing.{StartFits, is_subscribed}
 use Rattle.nc_journal.specs.declared.event.Event.{Event}
@@ -16,18 +15,12 @@ use Rattle.nc_world.specs.Moves.{Move, Handles, Carries, Takes, Counts, Rests, m
 abbrev pub IsSetup : Setup → Type 0
 IsSetup setup = (0 < setup.workers) × (setup.timeout ≤ 1000000000) × (setup.workers ≤ 16)
 
--- nobody starts behind the newest message yet
-abbrev pub IsStart : Start → Type 0
-IsStart Newest = ⊥
-IsStart _ = Unit {0}
-
 -- how a subscriber comes: its number is new, no channel is named twice, and the start fits the list
 pub record Comes (w k : ℕ) (list : List (List ℕ)) (start : Start) (h : List Event) : Type 0 where
   pub new : is_subscribed k (own w h) ≡ false
   pub distinct : AreDistinct list
   pub named : 0 < length list
   pub fits : StartFits list start
-  pub starts : IsStart start
 
 -- what an input keeps at a worker, by the history; packets come by moves of their own
 abbrev pub IsInput : ℕ → List Event → Incoming → Type 0

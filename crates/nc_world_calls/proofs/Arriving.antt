@@ -1,4 +1,4 @@
--- A subscriber that comes is sent nothing, and stands at the key of its spool.
+-- A subscriber that comes is sent nothing, and each subscriber of a spool stands then at its key.
 use Rattle.std.proofs.Common.{◌≡◌, ℕ, ◌+◌, Bool, true, false, cond, List, [], ◌∷◌, Option, Some, None, refl, sym, ap, ◌∙◌, subst, arith, length}
 use Rattle.std.specs.Prelude.{◌==◌, fold}
 use Rattle.std.specs.List.{AllByRecursion}
@@ -25,7 +25,7 @@ use Rattle.nc_spool.specs.Newest.{begun, edges_from, asked_edge}
 use Rattle.nc_spool_laws.specs.Numbers.{one, total}
 use Rattle.nc_spool_laws.specs.Tally.{reader_at, readers_of, stands}
 use Rattle.nc_spool_laws.proofs.Lists.{all-insert, all-without, all-found, all-changed, found-passes}
-use Rattle.nc_spool_laws.proofs.Same.{asked-shelf, joined-shelf}
+use Rattle.nc_spool_laws.proofs.Same.{asked-shelf, joined-shelf, edges-shelf}
 use Rattle.nc_spool_laws.proofs.SameKey.{key_same}
 use Rattle.nc_worker_state.specs.Spooled.{Hold}
 use Rattle.nc_rests.proofs.Received.{eqb_self}
@@ -35,22 +35,22 @@ use Rattle.nc_world_told.specs.Readers.{StandsAtKey, StandHere}
 use Rattle.nc_world_told.proofs.Written.{written_is, written_append, IsAway, IsUnsent, unsent_written}
 use Rattle.nc_world_told.proofs.Sends.{Appends, same_facts, one_fact, then_facts, IsOut, weaker, out_unsent, entered_outs}
 use Rattle.nc_world_told.proofs.Staying.{away_stands, out_away, outs_still}
-use Rattle.nc_world_calls.specs.Arriving.{StartsAtOnce, ArrivalSendsNothing, ArrivalStands}
+use Rattle.nc_world_calls.specs.Arriving.{ArrivalSendsNothing, ArrivalStands}
 
 pub joined_outs : (k : ℕ) (names : List (List ℕ)) (b : Board) → Appends IsOut b.facts (fold (joined k) b names).facts
 joined_outs k [] b = same_facts IsOut b.facts
 joined_outs k (c ∷ names) b = then_facts IsOut b.facts (joined k b c).facts _ (one_fact IsOut b.facts _ tt) (joined_outs k names (joined k b c))
 
-edges_outs : (k : ℕ) (names : List (List ℕ)) (b : Board) → Appends IsOut b.facts (edges_from k names b).facts
+pub edges_outs : (k : ℕ) (names : List (List ℕ)) (b : Board) → Appends IsOut b.facts (edges_from k names b).facts
 edges_outs k [] b = same_facts IsOut b.facts
 edges_outs k (c ∷ names) b = then_facts IsOut b.facts (asked_edge k c 0 b).facts _ (one_fact IsOut b.facts _ tt) (edges_outs k names (asked_edge k c 0 b))
 
 -- ---- it is sent nothing
 
-unsent : (xs ys : List Fact) → Appends IsOut xs ys → Appends IsUnsent xs ys
+pub unsent : (xs ys : List Fact) → Appends IsOut xs ys → Appends IsUnsent xs ys
 unsent xs ys a = record { facts = a.facts; are = a.are; all = weaker IsOut IsUnsent out_unsent a.facts a.all }
 
-begun_unsent : (r : Reader) (key : KeyAt) (b : Board) → Appends IsUnsent b.facts (begun r key b).facts
+pub begun_unsent : (r : Reader) (key : KeyAt) (b : Board) → Appends IsUnsent b.facts (begun r key b).facts
 begun_unsent r key b = then_facts IsUnsent b.facts (tells (facts.Started r.k key.cursor) b).facts _ (one_fact IsUnsent b.facts _ tt) (unsent _ _ (entered_outs key r (tells (facts.Started r.k key.cursor) b)))
 
 started_unsent : (start : Start) (r : Reader) (list : List (List ℕ)) (b : Board) → Appends IsUnsent b.facts (started_by start r list b).facts
@@ -124,18 +124,20 @@ module _ (me : ℕ) (cause : EndedCause) (next : ℕ → ℕ) (h : List Event) w
           ∙ ap (λ t. cond t (started key.cursor (stage_of r.k (own me (written me cause next b.facts h)))) (stage_of r.k (own me (written me cause next b.facts h)))) (eqb_self r.k)
           ∙ ap (started key.cursor) stage
 
-  started_stand : (start : Start) (r : Reader) (list : List (List ℕ)) (b : Board) → StartsAtOnce start → total (readers_of r.k) b.shelf ≡ 0 → stage_of r.k (own me (written me cause next b.facts h)) ≡ Starting list r.once start
+  started_stand : (start : Start) (r : Reader) (list : List (List ℕ)) (b : Board) → total (readers_of r.k) b.shelf ≡ 0 → stage_of r.k (own me (written me cause next b.facts h)) ≡ Starting list r.once start
       → AllByRecursion (λ x. StandHere me x (written me cause next b.facts h)) b.shelf → AllByRecursion (λ x. StandHere me x (written me cause next (started_by start r list b).facts h)) (started_by start r list b).shelf
-  started_stand Oldest r list b at_once none stage shelf = begun_stand r (record { list = list; cursor = oldest_cursor (length list) }) Oldest b none stage shelf
-  started_stand Newest r list b at_once none stage shelf = absurd at_once
-  started_stand (Given cursor) r list b at_once none stage shelf = begun_stand r (record { list = list; cursor = cursor }) (Given cursor) b none stage shelf
+  started_stand Oldest r list b none stage shelf = begun_stand r (record { list = list; cursor = oldest_cursor (length list) }) Oldest b none stage shelf
+  started_stand Newest r list b none stage shelf =
+      subst (AllByRecursion (λ (x : SpoolAt). StandHere me x (written me cause next (edges_from r.k list b).facts h))) (sym (edges-shelf r.k list b))
+      (all-changed (λ (x : SpoolAt). StandHere me x (written me cause next b.facts h)) (λ (x : SpoolAt). StandHere me x (written me cause next (edges_from r.k list b).facts h)) b.shelf
+      (λ x f. outs_still me cause next h b.facts (edges_from r.k list b).facts x.key x.readers (edges_outs r.k list b) f) shelf)
+  started_stand (Given cursor) r list b none stage shelf = begun_stand r (record { list = list; cursor = cursor }) (Given cursor) b none stage shelf
 
-  arrived_stand : (r : Reader) (list : List (List ℕ)) (start : Start) (s : SpoolsAt Hold) → StartsAtOnce start → stands r.k (board_of s) ≡ 0 → stage_of r.k (own me h) ≡ Starting list r.once start
+  arrived_stand : (r : Reader) (list : List (List ℕ)) (start : Start) (s : SpoolsAt Hold) → stands r.k (board_of s) ≡ 0 → stage_of r.k (own me h) ≡ Starting list r.once start
       → AllByRecursion (λ x. StandHere me x h) s.shelf → AllByRecursion (λ x. StandHere me x (written me cause next (arrived r list start (board_of s)).facts h)) (arrived r list start (board_of s)).shelf
-  arrived_stand r list start s at_once none stage shelf =
-      let b = fold (joined r.k) (board_of s) list in
+  arrived_stand r list start s none stage shelf =
       let outs = joined_outs r.k list (board_of s) in
-      started_stand start r list (fold (joined r.k) (board_of s) list) at_once
+      started_stand start r list (fold (joined r.k) (board_of s) list)
       (ap (total (readers_of r.k)) (joined-shelf r.k list (board_of s)) ∙ omega (arith, none))
       (away_stands me cause next h r.k [] (fold (joined r.k) (board_of s) list).facts (record { facts = outs.facts; are = outs.are; all = weaker IsOut (IsAway r.k) (out_away me cause next h r.k) outs.facts outs.all }) ∙ stage)
       (subst (AllByRecursion (λ (x : SpoolAt). StandHere me x (written me cause next (fold (joined r.k) (board_of s) list).facts h))) (sym (joined-shelf r.k list (board_of s)))
@@ -143,6 +145,6 @@ module _ (me : ℕ) (cause : EndedCause) (next : ℕ → ℕ) (h : List Event) w
       (λ x f. outs_still me cause next h [] (fold (joined r.k) (board_of s) list).facts x.key x.readers outs f) shelf))
 
 pub arrival_stands : ArrivalStands
-arrival_stands me next k list start once s h at_once none stage shelf =
+arrival_stands me next k list start once s h none stage shelf =
     subst (λ (l : List Event). AllByRecursion (λ (x : SpoolAt). StandHere me x l) (arrive_after k list start once s).shelf) (written_is me Answered next (arrive_facts k list start once s) h)
-    (arrived_stand me Answered next h (record { k = k; once = once }) list start s at_once none stage shelf)
+    (arrived_stand me Answered next h (record { k = k; once = once }) list start s none stage shelf)

@@ -6,3 +6,4 @@ pub mod NoticeStep
 pub mod NoticeKnowing
 pub mod Arriving
 pub mod ArrivalKnowing
+pub mod Edging

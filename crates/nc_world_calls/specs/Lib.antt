@@ -1,3 +1,4 @@
 pub mod Answering
 pub mod Noticing
 pub mod Arriving
+pub mod Edging

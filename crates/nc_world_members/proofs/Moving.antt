@@ -99,7 +99,7 @@ input_suits setup x (Posts c body) h world has i = tt
 input_suits setup x (Informs c) h world has i = tt
 input_suits setup x (Subscribes k list Oldest) h world has i = (has.known x k i.new, record { distinct = i.distinct; tags = length-all (length list) })
 input_suits setup x (Subscribes k list (Given cursor)) h world has i = (has.known x k i.new, record { distinct = i.distinct; tags = i.fits })
-input_suits setup x (Subscribes k list Newest) h world has i = absurd i.starts
+input_suits setup x (Subscribes k list Newest) h world has i = (has.known x k i.new, record { distinct = i.distinct; tags = length-all (length list) })
 
 -- it leaves the members that owners know
 input_same : (setup : Setup) (is : IsSetup setup) (x : ℕ) (incoming : Incoming) (h : List Event) (world : World) (g : Good setup h world) → IsInput x h incoming → (w k : ℕ) (c : List ℕ) (o : ℕ)

@@ -42,6 +42,6 @@ MembersByStages = (setup : Setup) (h : List Event) (world : World) → IsSetup s
 abbrev pub NobodyWaits : Type 0
 NobodyWaits = (setup : Setup) (h : List Event) (world : World) → IsSetup setup → Reached setup h world → (w k : ℕ) → IsServed (stage_of k (own w h)) → ⊥
 
--- as no one begins behind the newest message yet, nobody is starting
+-- and where no start is left in the spools of a worker, nobody is starting there
 abbrev pub NobodyStarts : Type 0
-NobodyStarts = (setup : Setup) (h : List Event) (world : World) → IsSetup setup → Reached setup h world → (w k : ℕ) → IsStarting (stage_of k (own w h)) → ⊥
+NobodyStarts = (setup : Setup) (h : List Event) (world : World) → IsSetup setup → Reached setup h world → (w k : ℕ) → (spools_at world w).starts ≡ [] → IsStarting (stage_of k (own w h)) → ⊥

@@ -1,5 +1,5 @@
 -- Stages of subscribers: by the local history of their worker, and by its spools.
-use Rattle.std.specs.Prelude.{◌≡◌, ℕ, Bool, false, List, [], if◌then◌else◌}
+use Rattle.std.specs.Prelude.{◌≡◌, ℕ, Bool, false, List, if◌then◌else◌}
 use Rattle.std.specs.List.{AllByRecursion}
 use Rattle.nc_journal.specs.History.{own}
 use Rattle.nc_journal.specs.Standing.{Stage, Absent, Starting, Standing, Over, stage_of, is_subscribed}
@@ -34,7 +34,3 @@ AllStand w h s = AllByRecursion (λ (r : Reader). stage_of r.k (own w h) ≡ Sta
 -- and each that isn't started yet starts with its list
 abbrev pub Starts : ℕ → List Event → StartingAt → Type 0
 Starts w h s = stage_of s.reader.k (own w h) ≡ Starting s.list s.reader.once Newest
-
--- nobody waits for its start at any worker
-abbrev pub AreStarted : World → Type 0
-AreStarted world = (w : ℕ) → (world.workers w).desk.spools.starts ≡ []

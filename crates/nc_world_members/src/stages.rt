@@ -22,7 +22,7 @@ pub fn nobody_waits()
     ensures { NobodyWaits }
 {}
 
-/// Between two steps nobody is starting, as no one begins behind the newest message yet.
+/// Between two steps nobody is starting at a worker whose spools have no start left.
 pub fn nobody_starts()
     ensures { NobodyStarts }
 {}

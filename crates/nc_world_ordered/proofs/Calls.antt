@@ -22,11 +22,11 @@ use Rattle.nc_spool_state.specs.Place.{place_awaiting}
 use Rattle.nc_spool_state.specs.Spool.{SpoolAt, is_of, awaits, place_at, with_place}
 use Rattle.nc_spool_state.specs.Shelf.{spool_of, others, without_first, place_before, keys_with}
 use Rattle.nc_spool_state.specs.Hear.{learned, notice_says}
-use Rattle.nc_spool.specs.Board.{told as tells, shelved, entered}
+use Rattle.nc_spool.specs.Board.{shelved}
 use Rattle.nc_spool.specs.Decide.{decided}
 use Rattle.nc_spool.specs.Hear.{looked_again, heeded, answered_by, answered_at, noticed_in, noticed_place, noticed_by, noticed_at}
 use Rattle.nc_spool.specs.Arrive.{oldest_cursor, joined}
-use Rattle.nc_spool.specs.Newest.{begun}
+use Rattle.nc_spool.specs.Newest.{begun, edges_from}
 use Rattle.nc_spool.specs.Calls.{board_of, news_of, arrive_facts, answer_facts, notice_facts}
 use Rattle.nc_spool_laws.specs.Numbers.{total}
 use Rattle.nc_spool_laws.specs.Tally.{readers_of, tally}
@@ -35,12 +35,12 @@ use Rattle.nc_spool_laws.proofs.Totals.{total-without}
 use Rattle.nc_spool_laws.proofs.Tallies.{noticed_at-tally}
 use Rattle.nc_world_told.specs.Written.{written, so_far}
 use Rattle.nc_world_told.specs.Readers.{StandHere, IsNotIn}
-use Rattle.nc_world_told.proofs.Written.{written_is, written_append, IsAway}
-use Rattle.nc_world_told.proofs.Sends.{Appends, IsOut, same_facts, one_fact, then_facts, weaker, entered_outs}
+use Rattle.nc_world_told.proofs.Written.{written_is, IsAway}
+use Rattle.nc_world_told.proofs.Sends.{Appends, IsOut, same_facts, one_fact, then_facts, weaker}
 use Rattle.nc_world_told.proofs.Staying.{Fits, outs_still, decided_fits, once_in, apart_from, all_both, away_stands}
 use Rattle.nc_world_ordered.specs.Orderly.{IsOrderly, AnswerOrderly, NoticeOrderly, ArrivalOrderly}
-use Rattle.nc_world_ordered.proofs.Orders.{started_orderly}
 use Rattle.nc_world_ordered.proofs.Deciding.{outs_orderly, decided_orderly}
+use Rattle.nc_world_ordered.proofs.Edging.{edges_outs, starts_orderly}
 
 -- ---- the answer to a look
 
@@ -145,13 +145,14 @@ begun_orderly me k list start once next h b key none starts o =
     = away_stands me Answered next h k b.facts b1.facts (record { facts = outs.facts; are = outs.are; all = weaker IsOut (IsAway k) (out_away k) outs.facts outs.all }) in
     let stage : stage_of k (own me (written me Answered next b1.facts h)) ≡ Starting list once start
     = there ∙ ap (λ (l : List Fact). stage_of k (own me (written me Answered next l h))) none ∙ starts in
-    outs_orderly me next h (tells (facts.Started k key.cursor) b1).facts (entered key r (tells (facts.Started k key.cursor) b1)).facts (entered_outs key r (tells (facts.Started k key.cursor) b1))
-    (subst IsOrderly (sym (written_append me Answered next b1.facts (facts.Started k key.cursor ∷ []) h))
-    (started_orderly me k key.cursor (written me Answered next b1.facts h) (subst IsStarting (sym stage) tt) (outs_orderly me next h b.facts b1.facts outs base)))
+    starts_orderly me next h r key b1 (subst IsStarting (sym stage) tt) (outs_orderly me next h b.facts b1.facts outs base)
 
 pub arrival_orderly : ArrivalOrderly
-arrival_orderly me k list Newest once next h s known starts o = absurd known
-arrival_orderly me k list Oldest once next h s known starts o =
+arrival_orderly me k list Oldest once next h s starts o =
     subst IsOrderly (written_is me Answered next (arrive_facts k list Oldest once s) h) (begun_orderly me k list Oldest once next h (board_of s) (record { list = list; cursor = oldest_cursor (length list) }) refl starts o)
-arrival_orderly me k list (Given cursor) once next h s known starts o =
+arrival_orderly me k list Newest once next h s starts o =
+    subst IsOrderly (written_is me Answered next (arrive_facts k list Newest once s) h)
+    (outs_orderly me next h [] (edges_from k list (fold (joined k) (board_of s) list)).facts
+    (then_facts IsOut [] (fold (joined k) (board_of s) list).facts (edges_from k list (fold (joined k) (board_of s) list)).facts (joined_outs k list (board_of s)) (edges_outs k list (fold (joined k) (board_of s) list))) o)
+arrival_orderly me k list (Given cursor) once next h s starts o =
     subst IsOrderly (written_is me Answered next (arrive_facts k list (Given cursor) once s) h) (begun_orderly me k list (Given cursor) once next h (board_of s) (record { list = list; cursor = cursor }) refl starts o)

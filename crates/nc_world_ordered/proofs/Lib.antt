@@ -1,3 +1,4 @@
 pub mod Orders
 pub mod Deciding
+pub mod Edging
 pub mod Calls

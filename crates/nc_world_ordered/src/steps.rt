@@ -1,5 +1,5 @@
 //! Steps of a worker's spools.
-ghost use Rattle.nc_world_ordered.specs.Orderly.{AnswerOrderly, NoticeOrderly, ArrivalOrderly};
+ghost use Rattle.nc_world_ordered.specs.Orderly.{AnswerOrderly, ArrivalOrderly, EdgeOrderly, NoticeOrderly};
 
 /// The answer to a look keeps the order.
 pub fn answer_orderly()
@@ -11,7 +11,12 @@ pub fn notice_orderly()
     ensures { NoticeOrderly }
 {}
 
-/// A subscriber that comes and starts keeps it.
+/// The answer to an edge keeps it, also where it starts a subscriber.
+pub fn edge_orderly()
+    ensures { EdgeOrderly }
+{}
+
+/// A subscriber that comes keeps it.
 pub fn arrival_orderly()
     ensures { ArrivalOrderly }
 {}

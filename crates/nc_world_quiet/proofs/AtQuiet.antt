@@ -19,7 +19,7 @@ use Rattle.nc_world_owners.proofs.ReachedHistories.{counts_are_told}
 use Rattle.nc_journal.specs.Standing.{Stage, Absent, Starting, Standing, Served, Over, IsStarting, stage_of}
 use Rattle.nc_world_members.specs.Stages.{is_with}
 use Rattle.nc_world_members.proofs.Staging.{members_by_stages}
-use Rattle.nc_world_members.proofs.Started.{nobody_starts}
+use Rattle.nc_world_begins.proofs.Laws.{nobody_starts_at_rest}
 use Rattle.nc_world_quiet.specs.Members.{stands_with, HasItsMembers, MembersAt, IsMemberRule, HistoriesHaveMembers}
 
 -- a worker's events tell no quiet
@@ -48,8 +48,10 @@ only_standing c Over none = refl
 module _ (setup : Setup) (is : IsSetup setup) where
   at_quiet : (h : List Event) (world : World) → Reached setup h world → pending_in setup world ≡ 0 → HasItsMembers setup.workers h
   at_quiet h world r none = record {
-    started = nobody_starts setup h world is r;
-    members = λ w k c. members_by_stages setup h world is r w k c (none_there setup h world is r none w (owner_of setup.workers c)) ∙ only_standing c (stage_of k (own w h)) (nobody_starts setup h world is r w k);
+    started = nobody_starts_at_rest setup h world is r (none_there setup h world is r none);
+    members = λ w k c.
+        members_by_stages setup h world is r w k c (none_there setup h world is r none w (owner_of setup.workers c))
+        ∙ only_standing c (stage_of k (own w h)) (nobody_starts_at_rest setup h world is r (none_there setup h world is r none) w k);
   }
 
   rule_theme : IsWorldTheme setup (λ h world. IsMemberRule setup.workers h)

@@ -5,7 +5,6 @@ use Rattle.nc_types.specs.Id.{Id}
 use Rattle.nc_types.specs.Channel.{owner_of}
 use Rattle.nc_types.specs.declared.info.Info.{Info}
 use Rattle.nc_types.specs.declared.start.Start.{Start}
-use Rattle.nc_types.specs.declared.start.Start.TheVariants.{Oldest, Newest, Given}
 use Rattle.nc_journal.specs.History.{own, onto, Along}
 use Rattle.nc_journal.specs.Standing.{Starting, stage_of}
 use Rattle.nc_journal.specs.declared.event.Event.{Event}
@@ -19,7 +18,6 @@ use Rattle.nc_journal.specs.declared.alert.AlertLine.TheVariants as lines
 use Rattle.nc_owner_laws.specs.Kinds.{IsOfOwner}
 use Rattle.nc_spool_state.specs.Spool.{SpoolAt}
 use Rattle.nc_spool_state.specs.Kept.{is_idle}
-use Rattle.nc_spool.specs.declared.fact.Fact.{Fact}
 use Rattle.nc_spool.specs.declared.spools.Found.{Found}
 use Rattle.nc_spool.specs.Calls.{SpoolsAt, board_of, news_of, answer_facts, notice_facts}
 use Rattle.nc_spool_laws.specs.Numbers.{total}
@@ -29,9 +27,9 @@ use Rattle.nc_worker_state.specs.Setup.{Setup}
 use Rattle.nc_worker_state.specs.Incoming.{Incoming, TakesPacket, ClockReads, Reaps, Posts, Subscribes, Informs}
 use Rattle.nc_worker_state.specs.Deed.{Does, told, next_after}
 use Rattle.nc_worker_state.specs.Desk.{Served, unserved, is_waiting, without, replied, handled as answered, begun}
-use Rattle.nc_worker_state.specs.Spooled.{Hold, found_by, found_in, facts_deeds, answers, notices}
+use Rattle.nc_worker_state.specs.Spooled.{Hold, found_by, found_in, answers, edges, notices}
 use Rattle.nc_world.specs.World.{World, handled_events}
-use Rattle.nc_world.specs.Reached.{IsSetup, IsStart, Comes, IsInput, Reached}
+use Rattle.nc_world.specs.Reached.{IsSetup, IsInput, Reached}
 use Rattle.nc_world_laws.specs.Good.{Good, IsLineTo}
 use Rattle.nc_world_laws.specs.WorldTheme.{IsWorldTheme}
 use Rattle.nc_world_laws.proofs.Local.{either, eqb_self, own_one}
@@ -45,8 +43,7 @@ use Rattle.nc_world_holds.proofs.Holding.{reached_holds}
 use Rattle.nc_world_members.proofs.Moving.{reached_has_members}
 use Rattle.nc_world_members.proofs.Staging.{spools_stand}
 use Rattle.nc_world_standing.proofs.Plain.{plain_stage}
-use Rattle.nc_world_standing.proofs.Opening.{no_edge}
-use Rattle.nc_world_standing.proofs.Stepping.{Stands, standing_theme, histories_stand}
+use Rattle.nc_world_standing.proofs.Stepping.{histories_stand}
 use Rattle.nc_rests.proofs.Received.{of_next}
 use Rattle.nc_sends.specs.GoodSends.{IsGoodSend}
 use Rattle.nc_starts.specs.Starts.{StartedThen}
@@ -55,16 +52,17 @@ use Rattle.nc_world_told.specs.Readers.{AreOnce}
 use Rattle.nc_world_told.proofs.Staying.{once_in}
 use Rattle.nc_world_told.proofs.Written.{written_is}
 use Rattle.nc_world_calls.specs.Answering.{SpoolsKnow, answer_of}
-use Rattle.nc_world_calls.specs.Arriving.{StartsAtOnce}
 use Rattle.nc_world_calls.proofs.Answering.{answer_sends_well}
 use Rattle.nc_world_calls.proofs.NoticeStep.{notice_sends_well}
 use Rattle.nc_world_calls.proofs.Arriving.{arrival_sends_nothing}
+use Rattle.nc_world_calls.proofs.Edging.{edge_sends_nothing}
 use Rattle.nc_world_asks.proofs.Reaching.{ring_next, reached_ask_well}
 use Rattle.nc_world_places.specs.Notices.{IsNoticeOf}
 use Rattle.nc_world_places.proofs.Framing.{then_releases}
 use Rattle.nc_world_places.proofs.Noticed.{reached_owners_notice}
 use Rattle.nc_world_places.proofs.Reaching.{made_notices, reached_spools_know}
 use Rattle.nc_world_places.proofs.Telling.{reached_owners_tell}
+use Rattle.nc_world_begins.proofs.Laws.{answers_start}
 use Rattle.nc_world_sends.specs.Sends.{SendsSo, HistoriesSendSo, HistoriesCarry, HistoriesPromise, HistoriesSendLawfully}
 use Rattle.nc_world_sends.proofs.Startless.{answered_startless, noticed_startless, startless_appends}
 use Rattle.nc_world_sends.proofs.Starting.{arrival_started}
@@ -110,15 +108,9 @@ shelf_once : (shelf : List SpoolAt) → ((k : ℕ) → total (readers_of k) shel
 shelf_once [] few = tt
 shelf_once (s ∷ shelf) few = (once_in s.readers (λ k. let f = few k in omega (arith, f)), shelf_once shelf (λ k. let f = few k in omega (arith, f)))
 
-at_once : (start : Start) → IsStart start → StartsAtOnce start
-at_once Newest is = is
-at_once Oldest is = tt
-at_once (Given from) is = tt
-
 -- what comes to a worker is as it counts on
 abbrev Suits : Setup → ℕ → List Event → Incoming → Type 0
 Suits setup w h (TakesPacket from p) = IsNext from w p.line h × IsLineTo setup.workers w p.line × IsWholeLine p.line × IsNoticeOf setup.workers from p.line
-Suits setup w h (Subscribes k list start) = Comes w k list start h
 Suits setup w h incoming = Unit {0}
 
 input_suits : (setup : Setup) (w : ℕ) (h : List Event) (incoming : Incoming) → IsInput w h incoming → Suits setup w h incoming
@@ -126,7 +118,7 @@ input_suits setup w h (TakesPacket from p) i = absurd i
 input_suits setup w h (ClockReads t) i = tt
 input_suits setup w h Reaps i = tt
 input_suits setup w h (Posts c body) i = tt
-input_suits setup w h (Subscribes k list start) i = i
+input_suits setup w h (Subscribes k list start) i = tt
 input_suits setup w h (Informs c) i = tt
 
 module _ (setup : Setup) (is : IsSetup setup) (w : ℕ) (h : List Event) (world : World) (r : Reached setup h world) (g : Good setup h world) (k : SendsSo setup.workers h) where
@@ -185,6 +177,14 @@ module _ (setup : Setup) (is : IsSetup setup) (w : ℕ) (h : List Event) (world 
                 (startless_appends setup.workers w Answered next (Took w (owner_of setup.workers c) n kinds.Notice ∷ h) [] (notice_facts c found d.spools) (noticed_startless c (news_of found) (board_of d.spools)) (k.started, tt));
           }
 
+  -- the answer to an edge
+  edge_line : (next : ℕ → ℕ) (from n number q floor : ℕ) (last : Id) → IsNext from w (lines.EdgeAnswer number q floor last) h
+      → SendsSo setup.workers (onto (told w next (edges w number floor last (world.workers w).desk.spools).deeds) (Took w from n kinds.EdgeAnswer ∷ h))
+  edge_line next from n number q floor last first = record {
+    sent = edge_sends_nothing setup.workers w next number floor last (world.workers w).desk.spools (Took w from n kinds.EdgeAnswer ∷ h) (plain_one setup.workers (Took w from n kinds.EdgeAnswer) h tt k).sent;
+    started = answers_start setup h world is r w from n number q floor last kinds.EdgeAnswer next first k.started;
+  }
+
   -- ---- any other step
 
   part_plain : (incoming : Incoming) → AllByRecursion IsPlain (part w incoming world)
@@ -220,9 +220,7 @@ module _ (setup : Setup) (is : IsSetup setup) (w : ℕ) (h : List Event) (world 
       → SendsSo setup.workers (onto (told w next (answered w from line (world.workers w).desk).deeds) (owned (TakesPacket from (packet n line))))
   packet_so next from n (lines.LookAnswer number q floor past gr slot) first right whole noticed = answer_line next from n number q floor past gr slot whole first
   packet_so next from n (lines.Notice c id gr slot) first right whole noticed = notice_line next from n c id gr slot noticed first
-  packet_so next from n (lines.EdgeAnswer number q floor last) first right whole noticed =
-      let none = no_edge w number floor last h (world.workers w).desk.spools (world_theme_holds setup (λ h world. Stands h) is (standing_theme setup is) h world r).opens (spools_stand setup h world is r w).1 in
-      subst (λ (fs : List Fact). SendsSo setup.workers (onto (told w next (facts_deeds w Answered fs)) (owned (TakesPacket from (packet n (lines.EdgeAnswer number q floor last)))))) (sym none) (owned_so (TakesPacket from (packet n (lines.EdgeAnswer number q floor last))))
+  packet_so next from n (lines.EdgeAnswer number q floor last) first right whole noticed = edge_line next from n number q floor last first
   packet_so next from n (lines.Gone c subs) first right whole noticed = absurd right
   packet_so next from n (lines.PubAnswer m status info usage) first right whole noticed = reply_so next _ m status info (owned_so (TakesPacket from (packet n (lines.PubAnswer m status info usage))))
   packet_so next from n (lines.InfoAnswer m status info) first right whole noticed = reply_so next _ m status info (owned_so (TakesPacket from (packet n (lines.InfoAnswer m status info))))
@@ -245,7 +243,7 @@ module _ (setup : Setup) (is : IsSetup setup) (w : ℕ) (h : List Event) (world 
       let o = owned_so (Subscribes n list start) in
       record {
         sent = arrival_sends_nothing setup.workers w next n list start true (world.workers w).desk.spools (owned (Subscribes n list start)) o.sent;
-        started = arrival_started setup.workers w next n list start true (world.workers w).desk.spools (owned (Subscribes n list start)) (at_once start f.starts) (comes_starting n list start) o.started;
+        started = arrival_started setup.workers w next n list start true (world.workers w).desk.spools (owned (Subscribes n list start)) (comes_starting n list start) o.started;
       }
 
   step_so : (incoming : Incoming) → Suits setup w h incoming → SendsSo setup.workers (onto (handled_events setup w incoming world) h)

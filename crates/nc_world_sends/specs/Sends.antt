@@ -30,6 +30,6 @@ HistoriesPromise = (setup : Setup) (h : List Event) (world : World) → IsSetup 
 abbrev pub HistoriesSendLawfully : Type 0
 HistoriesSendLawfully = (setup : Setup) (h : List Event) (world : World) → IsSetup setup → Reached setup h world → IsSentLawfully setup.workers h
 
--- and so is each start, before the oldest message or behind a given id
+-- and so is each start, before the oldest message, behind the newest ones or behind a given id
 abbrev pub HistoriesStartLawfully : Type 0
 HistoriesStartLawfully = (setup : Setup) (h : List Event) (world : World) → IsSetup setup → Reached setup h world → IsStartedLawfully setup.workers h

@@ -1,4 +1,4 @@
--- Events that tell nothing of a subscriber keep the order, and leave each subscriber where it stands.
+-- Events that tell nothing of a subscriber keep the order, and leave each subscriber where it stands or starts.
 use Rattle.std.proofs.Common.{◌≡◌, ℕ, Bool, true, false, cond, List, [], ◌∷◌, ◌++◌, refl, ap, ◌∙◌, subst, map}
 use Rattle.std.specs.Prelude.{◌==◌, Option}
 use Rattle.std.specs.List.{AllByRecursion}
@@ -12,10 +12,12 @@ use Rattle.nc_spool_state.specs.declared.spool.Reader.{Reader}
 use Rattle.nc_spool_state.specs.declared.kept.Held.{Held}
 use Rattle.nc_spool_state.specs.Key.{KeyAt}
 use Rattle.nc_spool_state.specs.Spool.{SpoolAt}
+use Rattle.nc_spool_state.specs.Starting.{StartingAt}
 use Rattle.nc_owner_laws.specs.Weave.{numbered}
 use Rattle.nc_worker_state.specs.Deed.{Deed, Does, Makes, told}
 use Rattle.nc_worker_state.specs.Spooled.{Hold, release}
 use Rattle.nc_world_laws.proofs.Frames.{IsStageless}
+use Rattle.nc_world_members.specs.Stages.{Starts}
 use Rattle.nc_world_told.specs.Readers.{StandsAtKey, StandHere}
 use Rattle.nc_world_ordered.specs.Orderly.{IsOrderly}
 use Rattle.nc_world_ordered.proofs.Orders.{stage_stays, one_orderly}
@@ -45,6 +47,10 @@ readers_stand w es h p key (r ∷ rs) s = (plain_stage w r.k es h p ∙ s.0, rea
 pub plain_stand : (w : ℕ) (es h : List Event) → AllByRecursion IsStageless es → (shelf : List SpoolAt) → AllByRecursion (λ x. StandHere w x h) shelf → AllByRecursion (λ x. StandHere w x (onto es h)) shelf
 plain_stand w es h p [] s = tt
 plain_stand w es h p (x ∷ shelf) s = (readers_stand w es h p x.key x.readers s.0, plain_stand w es h p shelf s.1)
+
+pub plain_start : (w : ℕ) (es h : List Event) → AllByRecursion IsStageless es → (starts : List StartingAt) → AllByRecursion (Starts w h) starts → AllByRecursion (Starts w (onto es h)) starts
+plain_start w es h p [] s = tt
+plain_start w es h p (x ∷ starts) s = (plain_stage w x.reader.k es h p ∙ s.0, plain_start w es h p starts s.1)
 
 -- ---- a subscriber subscribes
 

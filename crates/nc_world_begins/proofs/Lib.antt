@@ -1,0 +1,11 @@
+pub mod EdgeNumbers
+pub mod EdgePlaces
+pub mod EdgeSeconds
+pub mod EdgeHolding
+pub mod EdgeStarting
+pub mod Staying
+pub mod Beside
+pub mod Arriving
+pub mod Stepping
+pub mod Resting
+pub mod Laws

@@ -1,0 +1,4 @@
+pub mod Few
+pub mod Answered
+pub mod Apart
+pub mod Taking

@@ -1,0 +1,5 @@
+pub mod Standing
+pub mod Edgeless
+pub mod Taking
+pub mod Reaching
+pub mod Laws
