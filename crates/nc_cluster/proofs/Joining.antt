@@ -58,7 +58,6 @@ is_line setup h ms (lines.Poll w k list start) c known u = (
     distinct = c.2.distinct;
     named = c.2.named;
     fits = start_fits list start c.1;
-    starts = c.2.starts;
   },
 )
 is_line setup h ms (lines.Inform w chan) c known u = c

@@ -1,11 +1,9 @@
 -- Lines as those of the pure world, and what a line keeps.
 use Rattle.std.specs.Prelude.{ℕ, ◌<◌, List, length}
 use Rattle.nc_types.specs.Channel.{AreDistinct}
-use Rattle.nc_types.specs.declared.start.Start.{Start}
 use Rattle.nc_owner.specs.Moment.{IsClock}
 use Rattle.nc_spool.specs.Arrive.{FitsList}
 use Rattle.nc_world.specs.Lines as pure
-use Rattle.nc_world.specs.Reached.{IsStart}
 use Rattle.nc_script.specs.declared.line.Line.{Line}
 use Rattle.nc_script.specs.declared.line.Line.TheVariants as lines
 
@@ -20,11 +18,10 @@ pure_line (lines.Post w c body) = pure.Post w c body
 pure_line (lines.Poll w k list start) = pure.Poll w k list start
 pure_line (lines.Inform w c) = pure.Inform w c
 
--- a list names channels, each once, and one starts as one may
-pub record IsListed (list : List (List ℕ)) (start : Start) : Type 0 where
+-- a list names channels, each once
+pub record IsListed (list : List (List ℕ)) : Type 0 where
   pub distinct : AreDistinct list
   pub named : 0 < length list
-  pub starts : IsStart start
 
 -- its workers are there, a clock keeps its limit, and a subscriber's list and start are as they should be
 abbrev pub CanMake : ℕ → Line → Type 0
@@ -35,5 +32,5 @@ CanMake workers (lines.Carry w to) = (w < workers) × (to < workers)
 CanMake workers (lines.Take w from) = (w < workers) × (from < workers)
 CanMake workers (lines.Settle n) = Unit {0}
 CanMake workers (lines.Post w c body) = w < workers
-CanMake workers (lines.Poll w k list start) = (w < workers) × FitsList list start × IsListed list start
+CanMake workers (lines.Poll w k list start) = (w < workers) × FitsList list start × IsListed list
 CanMake workers (lines.Inform w c) = w < workers

@@ -12,7 +12,6 @@ use Rattle.nc_script.specs.Line.{line}
 use Rattle.nc_script.specs.Script.{IsPoll, HasNumberAt, Keeps, FitsNames}
 use Rattle.nc_spool.specs.Arrive.{FitsList}
 use Rattle.nc_world.specs.Lines.{Line}
-use Rattle.nc_world.specs.Reached.{IsStart}
 use Rattle.nc_cluster.specs.Line.{pure_line, CanMake}
 use Rattle.nc_cluster.specs.Comers.{broken_rule}
 use Rattle.nc_replay.specs.Lines.{is_used, IsNew, line_after}
@@ -21,13 +20,8 @@ use Rattle.nc_replay.specs.Lines.{is_used, IsNew, line_after}
 
 fits-list : (names : List (List ℕ)) (start : Start) → FitsNames names start → FitsList names start
 fits-list names Oldest fits = tt
-fits-list names Newest fits = absurd fits
+fits-list names Newest fits = tt
 fits-list names (Given cursor) fits = fits
-
-starts-so : (names : List (List ℕ)) (start : Start) → FitsNames names start → IsStart start
-starts-so names Oldest fits = tt
-starts-so names Newest fits = absurd fits
-starts-so names (Given cursor) fits = tt
 
 pub can-make : (workers : ℕ) (l : Said) → Keeps workers l → CanMake workers l
 can-make workers said.Blank keeps = tt
@@ -35,7 +29,7 @@ can-make workers (said.Clock w t) keeps = keeps
 can-make workers (said.Reap w) keeps = keeps
 can-make workers (said.Post w c body) keeps = keeps
 can-make workers (said.Poll w k names start) keeps =
-    (keeps.0, fits-list names start keeps.1.fits, record { distinct = keeps.1.distinct; named = keeps.1.some; starts = starts-so names start keeps.1.fits })
+    (keeps.0, fits-list names start keeps.1.fits, record { distinct = keeps.1.distinct; named = keeps.1.some })
 can-make workers (said.Carry w to) keeps = keeps
 can-make workers (said.Take w from) keeps = keeps
 can-make workers (said.Settle n) keeps = tt

@@ -26,7 +26,7 @@ both_below workers text p is =
 
 start_fits : (list : List (List ℕ)) (text : List ℕ) (begin : Start) → IsStart (length list) text begin → FitsNames list begin
 start_fits list text Oldest is = tt
-start_fits list text Newest is = is
+start_fits list text Newest is = tt
 start_fits list text (Given cursor) is = is.1
 
 are_channels : (word begin_word : Word) (cs list : List (List ℕ)) (begin : Start) → (names word).Says cs → (distinct_names word cs).Says list → IsStart (length list) begin_word.bytes begin → AreChannels list begin

@@ -77,41 +77,56 @@ behind_any : (before behind : List ℕ) → has_colon (before ++ codes ":" ++ be
 behind_any [] behind = refl
 behind_any (b ∷ before) behind = let rest = behind_any before behind in elim (b == 58) as (λ x. (x || has_colon (before ++ codes ":" ++ behind)) ≡ true) [ true ↦ refl | false ↦ rest ]
 
--- a word without a colon is no id
+-- words without a colon are no ids
 oldest_is_no_id : (cursor : CursorAt) → SpellsId (codes "oldest") cursor → ⊥
 oldest_is_no_id cursor id =
     let colon : has_colon (codes "oldest") ≡ true = ap has_colon id.text_is ∙ behind_any id.before id.behind in
     let none : false ≡ true = colon in cc
 
+newest_is_no_id : (cursor : CursorAt) → SpellsId (codes "newest") cursor → ⊥
+newest_is_no_id cursor id =
+    let colon : has_colon (codes "newest") ≡ true = ap has_colon id.text_is ∙ behind_any id.before id.behind in
+    let none : false ≡ true = colon in cc
+
+-- and the two are apart
+abbrev begins_with_o : List ℕ → Bool
+begins_with_o [] = false
+begins_with_o (b ∷ text) = b == 111
+
+apart_words : codes "oldest" ≡ codes "newest" → ⊥
+apart_words same = let first : true ≡ false = ap begins_with_o same in cc
+
 one_start : (n : ℕ) (text : List ℕ) (a b : Start) → IsStart n text a → IsStart n text b → a ≡ b
 one_start n text Oldest Oldest h k = refl
-one_start n text Oldest Newest h k = absurd k
+one_start n text Oldest Newest h k = absurd (apart_words (sym h ∙ k))
 one_start n text Oldest (Given cursor) h k = absurd (oldest_is_no_id cursor (subst (λ (t : List ℕ). SpellsId t cursor) h k.0))
-one_start n text Newest b h k = absurd h
+one_start n text Newest Oldest h k = absurd (apart_words (sym k ∙ h))
+one_start n text Newest Newest h k = refl
+one_start n text Newest (Given cursor) h k = absurd (newest_is_no_id cursor (subst (λ (t : List ℕ). SpellsId t cursor) h k.0))
 one_start n text (Given cursor) Oldest h k = absurd (oldest_is_no_id cursor (subst (λ (t : List ℕ). SpellsId t cursor) k h.0))
-one_start n text (Given cursor) Newest h k = absurd k
+one_start n text (Given cursor) Newest h k = absurd (newest_is_no_id cursor (subst (λ (t : List ℕ). SpellsId t cursor) k h.0))
 one_start n text (Given cursor) (Given other) h k = ap Given (one_cursor text cursor other h.0 k.0)
 
 pub start_sure : (n : ℕ) (word : Word) → IsSure (start n word)
 start_sure n word = must_sure 9 word.at _ (one_start n word.bytes)
 
-no_start : (n : ℕ) (text : List ℕ) (a : CursorAt) → SpellsId text a → length a.tags ≢ n → text ≢ codes "oldest" → (s : Start) → IsStart n text s → ⊥
-no_start n text a spelled other word Oldest is = word is
-no_start n text a spelled other word Newest is = is
-no_start n text a spelled other word (Given cursor) is =
+no_start : (n : ℕ) (text : List ℕ) (a : CursorAt) → SpellsId text a → length a.tags ≢ n → text ≢ codes "oldest" → text ≢ codes "newest" → (s : Start) → IsStart n text s → ⊥
+no_start n text a spelled other old new Oldest is = old is
+no_start n text a spelled other old new Newest is = new is
+no_start n text a spelled other old new (Given cursor) is =
     let same = ap (λ (c : CursorAt). length c.tags) (one_cursor text a cursor spelled is.0) in
     other (same ∙ is.1)
 
-no_id : (n : ℕ) (text : List ℕ) → ((a : CursorAt) → SpellsId text a → ⊥) → text ≢ codes "oldest" → (s : Start) → IsStart n text s → ⊥
-no_id n text none word Oldest is = word is
-no_id n text none word Newest is = is
-no_id n text none word (Given cursor) is = none cursor is.0
+no_id : (n : ℕ) (text : List ℕ) → ((a : CursorAt) → SpellsId text a → ⊥) → text ≢ codes "oldest" → text ≢ codes "newest" → (s : Start) → IsStart n text s → ⊥
+no_id n text none old new Oldest is = old is
+no_id n text none old new Newest is = new is
+no_id n text none old new (Given cursor) is = none cursor is.0
 
--- a word that is refused as an id, and isn't `oldest`, is no start
-pub refused_start : (n : ℕ) (word : Word) (refusal : IdRefusal) → word.bytes ≢ codes "oldest" → IsRefusedId word.bytes n refusal → Judged (start n word) (Err (start_fault word.at refusal))
-refused_start n word (Malformed place) other refused = (refl, refl, no_id n word.bytes refused.none other)
-refused_start n word (TagCount found) other refused = (refl, refl, no_start n word.bytes refused.0 refused.1 (λ same. refused.3 (sym refused.2 ∙ same)) other)
-refused_start n word NoMemory other refused = tt
+-- a word that is refused as an id, and is neither `oldest` nor `newest`, is no start
+pub refused_start : (n : ℕ) (word : Word) (refusal : IdRefusal) → word.bytes ≢ codes "oldest" → word.bytes ≢ codes "newest" → IsRefusedId word.bytes n refusal → Judged (start n word) (Err (start_fault word.at refusal))
+refused_start n word (Malformed place) old new refused = (refl, refl, no_id n word.bytes refused.none old new)
+refused_start n word (TagCount found) old new refused = (refl, refl, no_start n word.bytes refused.0 refused.1 (λ same. refused.3 (sym refused.2 ∙ same)) old new)
+refused_start n word NoMemory old new refused = tt
 
 some_placed : (at : ℕ) (pieces : List (List ℕ)) → 0 < length pieces → 0 < length (map (λ w. w.bytes) (placed at pieces))
 some_placed at [] some = some

@@ -97,10 +97,10 @@ distinct_names word cs = must 8 word.at (λ list. (list ≡ distinct cs) × (len
 abbrev pub list : Word → Judge (List (List ℕ))
 list word = next (names word) (distinct_names word)
 
--- where a subscriber of so many channels starts: before the oldest message, or behind the given ids
+-- where a subscriber of so many channels starts: before the oldest message, behind the newest, or behind the given ids
 abbrev pub IsStart : ℕ → List ℕ → Start → Type 0
 IsStart n text Oldest = text ≡ codes "oldest"
-IsStart n text Newest = ⊥
+IsStart n text Newest = text ≡ codes "newest"
 IsStart n text (Given cursor) = SpellsId text cursor × (length cursor.tags ≡ n)
 
 -- rule 9: a start can be read

@@ -13,10 +13,10 @@ use Rattle.nc_script.specs.declared.line.Line.TheVariants.{Blank, Clock, Reap, P
 abbrev pub LinesAreSure : Type 0
 LinesAreSure = (workers : ℕ) (text : List ℕ) → IsSure (line workers text)
 
--- a start fits the names of a list: it isn't behind the newest message, and a given one has a tag for each name
+-- a start fits the names of a list: a given one has a tag for each name
 abbrev pub FitsNames : List (List ℕ) → Start → Type 0
 FitsNames names Oldest = Unit {0}
-FitsNames names Newest = ⊥
+FitsNames names Newest = Unit {0}
 FitsNames names (Given cursor) = length cursor.tags ≡ length names
 
 -- a list of channels has at least one, none of them twice, and a start that fits

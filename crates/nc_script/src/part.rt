@@ -192,7 +192,8 @@ fn start_fault(refusal: IdRefusal, word: &Word<'_>) -> LineFault
 
 /// The ids behind which a subscriber of `n` channels begins.
 fn given(alloc: Global, word: &Word<'_>, n: usize) -> Result<Start, LineFault>
-    requires { word.now.bytes ≢ codes "oldest" }
+    requires oldest { word.now.bytes ≢ codes "oldest" }
+    requires newest { word.now.bytes ≢ codes "newest" }
     ensures { Judged (start n word.now) result }
 {
     match read_id(alloc, word.bytes, n) {
@@ -207,6 +208,7 @@ pub(crate) fn start(alloc: Global, word: &Word<'_>, n: usize) -> Result<Start, L
 {
     match word.bytes {
         b"oldest" => Ok(Start::Oldest),
+        b"newest" => Ok(Start::Newest),
         _ => given(alloc, word, n),
     }
 }
