@@ -1,2 +1,3 @@
 pub mod Packets
 pub mod Steps
+pub mod Ending

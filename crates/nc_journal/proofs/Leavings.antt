@@ -7,13 +7,15 @@ use Rattle.std.proofs.lemmas.List.Elements.{filter-append}
 use Rattle.nc_types.specs.Id.{Id, IsPast, id_eq}
 use Rattle.nc_types.specs.Channel.{name_eq}
 use Rattle.nc_journal.specs.declared.event.Event.{Event}
-use Rattle.nc_journal.specs.declared.event.Event.TheVariants.{Stored, Left}
+use Rattle.nc_journal.specs.declared.event.Event.TheVariants.{Stored, Left, Removed}
 use Rattle.nc_journal.specs.declared.word.LeftCause.{LeftCause}
 use Rattle.nc_journal.specs.declared.word.LeftCause.TheVariants.{Length, Expired, Deleted, Spent}
+use Rattle.nc_journal.specs.declared.word.RemovedCause.TheVariants.{Deleted as ByDeletion}
 use Rattle.nc_journal.specs.History.{onto}
 use Rattle.nc_journal.specs.Message.{Message, message_of, published, is_gone, buffer, IsRising}
 use Rattle.nc_journal.specs.Sending.{HasId}
-use Rattle.nc_journal.specs.Leaving.{HasMessage, StandsFirst, MakesRoom, LeavesBy, LeftAt}
+use Rattle.nc_journal.specs.Leaving.{HasMessage, StandsFirst, MakesRoom, GoesNext, LeavesBy, LeftAt}
+use Rattle.nc_journal.specs.Refused.{UnremovedIsRefused}
 use Rattle.nc_journal.proofs.Cuts.{all-weaker}
 
 -- ids as tests
@@ -182,10 +184,13 @@ room-more e w c newer older room = record {
   full = room.full;
 }
 
+goes-more : (e : Event) (w : ℕ) (c : List ℕ) (newer : List Event) → GoesNext w c newer → GoesNext w c (e ∷ newer)
+goes-more e w c newer goes = record { after = e ∷ goes.after; last = goes.last; between = goes.between; next = ap (λ (l : List Event). e ∷ l) goes.next; too = goes.too }
+
 leaves-more : (cause : LeftCause) (e : Event) (w : ℕ) (c : List ℕ) (id : Id) (slot : ℕ) (newer older : List Event) → LeavesBy cause w c id slot newer older → LeavesBy cause w c id slot (e ∷ newer) older
 leaves-more Expired e w c id slot newer older by = by
 leaves-more Length e w c id slot newer older by = (by.0, room-more e w c newer older by.1)
-leaves-more Deleted e w c id slot newer older by = by
+leaves-more Deleted e w c id slot newer older by = (by.0, goes-more e w c newer by.1)
 leaves-more Spent e w c id slot newer older by = by
 
 -- a message that left by the rule did so whatever comes later
@@ -195,3 +200,14 @@ left-more workers e newer (Left w c id slot cause) older at = record {
   why = leaves-more cause e w c id slot newer older at.why;
 }
 left-more workers e newer _ older at = tt
+
+-- behind the newest event stands nothing
+
+no_newer : (after between : List Event) (e : Event) → [] ≡ after ++ e ∷ between → ⊥
+no_newer [] between e is = cc
+no_newer (x ∷ after) between e is = cc
+
+pub unremoved_is_refused : UnremovedIsRefused
+unremoved_is_refused workers w slot c id h rule =
+    let goes = (rule.left [] (Left w c id slot Deleted) h refl).why.1 in
+    no_newer goes.after goes.between (Removed w c goes.last ByDeletion) goes.next

@@ -10,6 +10,7 @@ use Rattle.nc_journal.specs.declared.event.Event.{Event}
 use Rattle.nc_journal.specs.declared.event.Event.TheVariants.{Stored, Left, Looked, Edged, Joined, Parted, Granted, Freed, Removed}
 use Rattle.nc_journal.specs.declared.word.LeftCause.{LeftCause}
 use Rattle.nc_journal.specs.declared.word.LeftCause.TheVariants.{Length, Expired, Deleted, Spent}
+use Rattle.nc_journal.specs.declared.word.RemovedCause.TheVariants.{Deleted as ByDeletion}
 
 -- a message expires at a moment that it names; 0 is never
 abbrev pub is_expired : ℕ → Message → Bool
@@ -49,6 +50,19 @@ pub record MakesRoom (w : ℕ) (c : List ℕ) (newer older : List Event) : Type 
   pub way : AllByRecursion MakesWay (own w between)
   pub full : len - 1 < length (buffer c older)
 
+-- what may stand between a message that leaves by deletion and the removal of its channel: messages of the channel that leave so too
+abbrev pub GoesToo : List ℕ → Event → Type 0
+GoesToo c (Left w d id slot Deleted) = d ≡ c
+GoesToo c _ = ⊥
+
+-- a channel is removed by a deletion, and nothing but its messages leaves before
+pub record GoesNext (w : ℕ) (c : List ℕ) (newer : List Event) : Type 0 where
+  pub after : List Event
+  pub last : Id
+  pub between : List Event
+  pub next : newer ≡ after ++ Removed w c last ByDeletion ∷ between
+  pub too : AllByRecursion (GoesToo c) (own w between)
+
 -- how often a slot was granted since the last message was stored there, by the local history of its owner
 abbrev pub grants_since : ℕ → List Event → ℕ
 grants_since slot [] = 0
@@ -60,12 +74,12 @@ grants_since slot (e ∷ h) = grants_since slot h
 abbrev pub most_grants : ℕ
 most_grants = 4294967295
 
--- why a message leaves: it has expired; room is made and it is the first; or it was granted as often as it may be; deletion comes later
+-- why a message leaves: it has expired; room is made and it is the first; it was granted as often as it may be; or it is the first and its channel is deleted
 abbrev pub LeavesBy : LeftCause → ℕ → List ℕ → Id → ℕ → List Event → List Event → Type 0
 LeavesBy Expired w c id slot newer older = HasMessage (λ m. is_expired (clock_of (own w older)) m ≡ true) (buffer c older) id slot
 LeavesBy Length w c id slot newer older = StandsFirst (buffer c older) id slot × MakesRoom w c newer older
 LeavesBy Spent w c id slot newer older = HasMessage (λ m. grants_since m.slot (own w older) ≡ most_grants) (buffer c older) id slot
-LeavesBy Deleted w c id slot newer older = ⊥
+LeavesBy Deleted w c id slot newer older = StandsFirst (buffer c older) id slot × GoesNext w c newer
 
 -- a message leaves by its channel's owner, for a cause
 pub record Leaves (workers w : ℕ) (c : List ℕ) (id : Id) (slot : ℕ) (cause : LeftCause) (newer older : List Event) : Type 0 where

@@ -4,7 +4,7 @@
 ghost use Rattle.std.specs.Prelude.{ℕ, List};
 ghost use Rattle.nc_journal.specs.declared.event.Event.{Event};
 ghost use Rattle.nc_journal.specs.Message.{RisingLaw};
-ghost use Rattle.nc_journal.specs.Refused.{UnendedIsRefused};
+ghost use Rattle.nc_journal.specs.Refused.{UnendedIsRefused, UnremovedIsRefused};
 ghost use Rattle.nc_journal.specs.Slots.{IsByLastNaming, HoldsLaw};
 ghost use Rattle.nc_journal.specs.Text.{TextGrows};
 
@@ -32,4 +32,9 @@ pub fn holds_are_granted()
 /// No history ends behind the message that ends a subscriber, without its end.
 pub fn unended_is_refused()
     ensures { UnendedIsRefused }
+{}
+
+/// No lawful history ends behind a message that leaves by a deletion, without the removal of its channel.
+pub fn unremoved_is_refused()
+    ensures { UnremovedIsRefused }
 {}
