@@ -29,6 +29,10 @@ back_fresh c s ch stays before gone at_name fresh =
     either true all = all
     either false all = tt
 
+-- a channel that isn't there
+pub gone_fresh : (c : List ℕ) (s : OwnerAt) → found c s ≡ None → IsFresh c s
+gone_fresh c s gone = subst (λ (f : Option Channel). MatchOption f (Unit {0}) (λ x. NoneExpired s.desk.clock (entries_of x))) (sym gone) tt
+
 -- the same of an owner whose channels alone change
 pub close_fresh : (c : List ℕ) (d : Desk) (before after : List (List ℕ × Channel)) (s : OwnerAt) (ch : Channel) (stays : Bool) → record { desk = d; channels = before } ≡ s
     → lookup (is_name c) after ≡ (if stays then Some ch else lookup (is_name c) before) → found c s ≡ None → NoneExpired s.desk.clock (entries_of ch) → IsFresh c (record { desk = d; channels = after })

@@ -1,5 +1,5 @@
 -- Entries leave a bench one by one.
-use Rattle.std.proofs.Common.{◌≡◌, ◌-◌, ◌<◌, ℕ, zero, suc, Bool, true, false, List, [], ◌∷◌, ◌++◌, refl, sym, ap, ◌∙◌, subst, length, take, drop, map, filter, find, Some, None, cond, arith, append_assoc}
+use Rattle.std.proofs.Common.{◌≡◌, ◌-◌, ◌<◌, ℕ, zero, suc, Bool, true, false, List, [], ◌∷◌, ◌++◌, refl, sym, ap, ◌∙◌, subst, length, take, drop, map, filter, find, Some, None, cond, arith, append_assoc, le_refl, take_all}
 use Rattle.std.proofs.lemmas.List.{append-nil}
 use Rattle.std.specs.Prelude.{fold}
 use Rattle.nc_types.specs.Message.{Message}
@@ -169,3 +169,15 @@ pub shed_events-end : (n : ℕ) (cause : LeftCause) (c : List ℕ) (me : ℕ) (e
     → n ≡ 0 → events ++ map (left_event me c cause) (take n es) ≡ all → events ≡ all
 shed_events-end n cause c me es events all is whole =
     sym (append-nil events) ∙ (ap (λ (k : ℕ). events ++ map (left_event me c cause) (take k es)) (sym is) ∙ whole)
+
+-- all leave
+pub all_of : (n : ℕ) (es : List Entry) → n ≡ length es → take n es ≡ es
+all_of n es is = ap (λ (k : ℕ). take k es) is ∙ take_all (length es) es (le_refl (length es))
+
+pub shed-all : (n : ℕ) (d d2 : Desk) (row row2 : List (Slot Message)) (ch ch2 : Channel) → n ≡ length ch.backlog.entries → at d2 row2 ch2 ≡ shed n (at d row ch)
+    → (d2 ≡ left_by ch.backlog.entries d) × (row2 ≡ fold left_row row ch.backlog.entries)
+shed-all n d d2 row row2 ch ch2 is bench =
+    let all = all_of n ch.backlog.entries is in (
+      ap (λ (b : Bench). b.desk) bench ∙ ap (λ (l : List Entry). left_by l d) all,
+      ap (λ (b : Bench). b.row) bench ∙ ap (λ (l : List Entry). fold left_row row l) all,
+    )

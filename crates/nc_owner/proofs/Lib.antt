@@ -17,3 +17,5 @@ pub mod Lowest
 pub mod Fresh
 pub mod Freshened
 pub mod Firsts
+pub mod Removals
+pub mod Removing

@@ -13,6 +13,7 @@ pub mod Members
 pub mod OtherSteps
 pub mod Fence
 pub mod Edge
+pub mod Remove
 pub mod Sweep
 pub mod Holds
 pub mod TouchedLook

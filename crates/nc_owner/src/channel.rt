@@ -1,6 +1,7 @@
 //! What an owner keeps of one channel.
 ghost use Rattle.std.specs.Prelude.{◌≡◌, [], IfOk, None};
 ghost use Rattle.nc_owner.specs.Publish.{info_of, stored_status};
+ghost use Rattle.nc_owner.specs.Remove.{is_idle};
 
 use crate::backlog::Backlog;
 use crate::members::Members;
@@ -49,5 +50,12 @@ impl Channel {
         ensures { result ≡ stored_status self.now }
     {
         if self.members.len() == 0 { 202 } else { 201 }
+    }
+
+    /// Whether it keeps no message and has no member.
+    pub(crate) fn is_idle(&self) -> bool
+        ensures { result ≡ is_idle self.now }
+    {
+        self.backlog.len() == 0 && self.members.len() == 0
     }
 }

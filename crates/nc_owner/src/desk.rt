@@ -1,5 +1,6 @@
 //! What an owner keeps beside its channels.
 ghost use Rattle.std.specs.Prelude.{◌≡◌, OnOk};
+ghost use Rattle.nc_journal.specs.Stamp.{greater_id};
 ghost use Rattle.nc_owner.specs.Ascending.{with_number, without_number};
 
 use crate::ascending::{with_slot, without_slot};
@@ -41,5 +42,14 @@ impl Desk {
     {
         let slots = mem::replace(&mut self.retired, List::new(alloc));
         self.retired = without_slot(slots, slot);
+    }
+
+    /// The spent id isn't before an id from then on.
+    pub(crate) fn spend(&mut self, id: MsgId)
+        ensures { self.new ≡ record self.old { spent = greater_id self.old.spent id } }
+    {
+        if id.past(&self.spent) {
+            self.spent = id;
+        }
     }
 }

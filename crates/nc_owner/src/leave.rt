@@ -1,7 +1,7 @@
 //! Entries leave a channel, and their slots are retired.
-ghost use Rattle.std.specs.Prelude.{◌≡◌, ◌∷◌, ◌++◌, [], OnOk, true};
-ghost use Rattle.nc_journal.specs.declared.word.LeftCause.TheVariants.{Length as ByLength};
-ghost use Rattle.nc_owner.specs.Leave.{left_event, left_desk, left_row, touch_events, touched, shed_events, shed};
+ghost use Rattle.std.specs.Prelude.{◌≡◌, ◌∷◌, ◌++◌, [], OnOk, true, fold, map};
+ghost use Rattle.nc_journal.specs.declared.word.LeftCause.TheVariants.{Deleted as ByDeletion};
+ghost use Rattle.nc_owner.specs.Leave.{left_by, left_event, left_desk, left_row, touch_events, touched, shed_events, shed};
 ghost use Rattle.nc_owner.specs.Pool.{SameOthers};
 ghost use Rattle.nc_owner.specs.State.{at};
 
@@ -63,7 +63,7 @@ pub(crate) fn touch<P: Slots>(
     Ok(())
 }
 
-/// So many of the oldest entries leave, to make room for a message.
+/// So many of the oldest entries leave.
 pub(crate) fn shed<P: Slots>(
     alloc: Global,
     desk: &mut Desk,
@@ -71,9 +71,10 @@ pub(crate) fn shed<P: Slots>(
     name: &ChanName,
     channel: &mut Channel,
     count: usize,
+    cause: LeftCause,
     events: &mut List<Event>,
 ) -> Result<(), NoMemory>
-    ensures events { OnOk result (events.new ≡ events.old ++ shed_events ByLength count name.now (at desk.old (P.slots pool.old desk.old.me) channel.old)) }
+    ensures events { OnOk result (events.new ≡ events.old ++ shed_events cause count name.now (at desk.old (P.slots pool.old desk.old.me) channel.old)) }
     ensures bench { OnOk result (at desk.new (P.slots pool.new desk.old.me) channel.new ≡ shed count (at desk.old (P.slots pool.old desk.old.me) channel.old)) }
     ensures others { OnOk result (SameOthers desk.old.me (P.slots pool.old) (P.slots pool.new)) }
     ensures holds { OnOk result (P.exact ≡ true → P.holds pool.new ≡ P.holds pool.old) }
@@ -83,8 +84,37 @@ pub(crate) fn shed<P: Slots>(
         let Some(entry) = channel.backlog.drop_oldest() else {
             return Ok(());
         };
-        leave(alloc, desk, pool, name, &entry, LeftCause::Length, events)?;
+        leave(alloc, desk, pool, name, &entry, cause, events)?;
         left -= 1;
     }
+    Ok(())
+}
+
+/// All entries leave, the oldest first, since the channel is to go.
+pub(crate) fn leave_all<P: Slots>(
+    alloc: Global,
+    desk: &mut Desk,
+    pool: &mut P,
+    name: &ChanName,
+    channel: &mut Channel,
+    events: &mut List<Event>,
+) -> Result<(), NoMemory>
+    ensures events { OnOk result (events.new ≡ events.old ++ map (left_event desk.old.me name.now ByDeletion) channel.old.backlog.entries) }
+    ensures desk { OnOk result (desk.new ≡ left_by channel.old.backlog.entries desk.old) }
+    ensures row { OnOk result (P.slots pool.new desk.old.me ≡ fold left_row (P.slots pool.old desk.old.me) channel.old.backlog.entries) }
+    ensures others { OnOk result (SameOthers desk.old.me (P.slots pool.old) (P.slots pool.new)) }
+    ensures holds { OnOk result (P.exact ≡ true → P.holds pool.new ≡ P.holds pool.old) }
+{
+    let count = channel.backlog.len();
+    shed(
+        alloc,
+        desk,
+        pool,
+        name,
+        channel,
+        count,
+        LeftCause::Deleted,
+        events,
+    )?;
     Ok(())
 }

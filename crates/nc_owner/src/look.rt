@@ -5,7 +5,6 @@ ghost use Rattle.nc_buffer.specs.Buffer.{is_spent, first_past};
 ghost use Rattle.nc_buffer.specs.Laws.{entry_past};
 ghost use Rattle.nc_slots.specs.Slot.{slot_at, message_of};
 ghost use Rattle.nc_journal.specs.declared.event.Event.TheVariants.{Granted};
-ghost use Rattle.nc_owner.specs.Ascending.{has_number, place_above, with_new_number};
 ghost use Rattle.std.specs.List.{AllByRecursion};
 ghost use Rattle.nc_owner.specs.OtherSteps.{touched_of};
 ghost use Rattle.nc_owner.specs.TouchedLook.{CarriesFound, CarriesSeen, seen, seen_events, seen_line, seen_holds};
@@ -25,6 +24,7 @@ use crate::channel::Channel;
 use crate::desk::Desk;
 use crate::done::Done;
 use crate::leave::leave;
+use crate::marks::mark;
 use crate::owner::Owner;
 use nc_alert::{Alert, Grant, Outgoing};
 use nc_buffer::Entry;
@@ -33,7 +33,6 @@ use nc_journal::{Event, EventList, LeftCause};
 use nc_slots::Slots;
 use nc_types::{ChanName, List, MsgId, NoMemory};
 use std::alloc::Global;
-use std::mem;
 
 /// What a look asks for: the first message past an id, by the look that worker `from` calls `number`.
 #[derive(Clone, Copy)]
@@ -61,40 +60,6 @@ fn spend<P: Slots>(
     while let Some(entry) = channel.backlog.spent_one() {
         leave(alloc, desk, pool, name, &entry, LeftCause::Spent, events)?;
     }
-    Ok(())
-}
-
-/// Whether a worker is marked.
-fn is_marked(marks: &[u8], from: u8) -> bool
-    ensures { result ≡ has_number from marks.now }
-{
-    marks.iter().any(|mark| from == *mark)
-}
-
-/// The place of a worker among the marked ones.
-fn place_of(marks: &[u8], from: u8) -> usize
-    ensures place { result ≡ place_above from marks.now }
-    ensures within { result ≤ length marks.now }
-{
-    for (place, mark) in marks.iter().enumerate() {
-        if from < *mark {
-            return place;
-        }
-    }
-    marks.len()
-}
-
-/// A worker is to be told of the next message.
-fn mark(alloc: Global, marks: &mut List<u8>, from: u8) -> Result<(), NoMemory>
-    ensures { OnOk result (marks.new ≡ with_new_number marks.old from) }
-{
-    if is_marked(marks.as_slice(), from) {
-        return Ok(());
-    }
-    let place = place_of(marks.as_slice(), from);
-    let mut items = mem::replace(marks, List::new(alloc)).into_vec();
-    items.insert(place, from)?;
-    *marks = List::of(items);
     Ok(())
 }
 

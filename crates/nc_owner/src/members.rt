@@ -1,9 +1,11 @@
 //! The members of a channel.
-ghost use Rattle.std.specs.Prelude.{◌≡◌, [], length, OnErr, OnOk};
+ghost use Rattle.std.specs.Prelude.{◌≡◌, [], fold, length, IfOk, OnErr, OnOk};
 ghost use Rattle.nc_owner.specs.Members.{has_member, with_member, without_member};
+ghost use Rattle.nc_owner.specs.Remove.{numbers_of, with_worker};
 
+use crate::marks::mark;
 use crate::member::Member;
-use nc_types::NoMemory;
+use nc_types::{List, NoMemory};
 use std::alloc::Global;
 use std::collections::BTreeSet;
 use std::marker::Model;
@@ -63,5 +65,33 @@ impl Members {
         ensures { self.new ≡ without_member member.now self.old }
     {
         self.set.remove(member);
+    }
+
+    /// Some workers in ascending order, with those that have a member here.
+    pub(crate) fn with_workers(
+        &self,
+        alloc: Global,
+        workers: List<u8>,
+    ) -> Result<List<u8>, NoMemory>
+        ensures { IfOk result (λ all. all ≡ fold with_worker workers self.now) }
+    {
+        let mut all = workers;
+        for member in &self.set {
+            mark(alloc, &mut all, member.from)?;
+        }
+        Ok(all)
+    }
+
+    /// The numbers of a worker's members, in ascending order.
+    pub(crate) fn numbers_of(&self, alloc: Global, worker: u8) -> Result<List<u64>, NoMemory>
+        ensures { IfOk result (λ numbers. numbers ≡ numbers_of worker self.now) }
+    {
+        let mut numbers = List::new(alloc);
+        for member in &self.set {
+            if member.from == worker {
+                numbers.push(member.k)?;
+            }
+        }
+        Ok(numbers)
     }
 }

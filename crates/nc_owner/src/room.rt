@@ -12,7 +12,7 @@ use crate::channel::Channel;
 use crate::desk::Desk;
 use crate::leave::shed;
 use crate::poll::{PollAnswer, free_some, held_count, poll_each};
-use nc_journal::Event;
+use nc_journal::{Event, LeftCause};
 use nc_slots::Slots;
 use nc_types::{ChanName, FullLine, List, NoMemory};
 use std::alloc::Global;
@@ -88,7 +88,16 @@ pub(crate) fn make_room<P: Slots>(
     let count = leaving_count(&channel.backlog, most);
     let slots = slots_of(alloc, &channel.backlog, count)?;
     let sorted = ascending(alloc, &slots)?;
-    shed(alloc, desk, pool, name, channel, count, events)?;
+    shed(
+        alloc,
+        desk,
+        pool,
+        name,
+        channel,
+        count,
+        LeftCause::Length,
+        events,
+    )?;
     let answers = poll_each(alloc, pool, me, sorted.as_slice())?;
     free_some(alloc, desk, &answers, events)?;
     Ok(answers)

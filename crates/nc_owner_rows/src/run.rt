@@ -124,11 +124,28 @@ impl Run {
         self.book.print_done(done)
     }
 
+    /// `delete FROM CHANNEL`
+    fn delete(&mut self, mut words: Words<'_>) -> Result<(), NoMemory> {
+        let from = words.worker();
+        let r = self.book.next_asked();
+        let chan = words.name(self.book.alloc)?;
+        let done = self.owner.delete(&mut self.pool, from, r, chan)?;
+        self.book.print_done(done)
+    }
+
     /// `sweep CHANNEL`
     fn sweep(&mut self, mut words: Words<'_>) -> Result<(), NoMemory> {
         let chan = words.name(self.book.alloc)?;
         let done = self.owner.sweep_one(&mut self.pool, &chan)?;
         self.book.print_done(done)
+    }
+
+    /// `reap`: each channel is swept, and then all retired slots are polled.
+    fn reap(&mut self) -> Result<(), NoMemory> {
+        for done in reap(self.book.alloc, &mut self.owner, &mut self.pool)?.into_vec() {
+            self.book.print_done(done)?;
+        }
+        Ok(())
     }
 
     /// `poll`: all retired slots are polled.
@@ -191,13 +208,11 @@ impl Run {
             "join" => self.join(words),
             "part" => self.part(words),
             "info" => self.info(words),
+            "delete" => self.delete(words),
             "sweep" => self.sweep(words),
             "poll" => self.poll(),
             "names" => self.names(),
-            "reap" => {
-                let done = reap(self.book.alloc, &mut self.owner, &mut self.pool)?;
-                self.book.print_done(done)
-            }
+            "reap" => self.reap(),
             _ => self.book.print(b"no such step"),
         }
     }

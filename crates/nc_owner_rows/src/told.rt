@@ -76,6 +76,11 @@ pub fn told(alert: Alert<PlainHold>) -> Option<(AlertLine, Option<(u64, PlainHol
             let status = u64::from(status);
             Some((AlertLine::InfoAnswer { r, status, info }, None))
         }
+        Alert::DelAnswer { r, status, info } => {
+            let status = u64::from(status);
+            Some((AlertLine::DelAnswer { r, status, info }, None))
+        }
+        Alert::Gone { c, subs } => Some((AlertLine::Gone { c, subs }, None)),
         _ => None,
     }
 }

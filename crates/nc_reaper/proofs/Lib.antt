@@ -1,3 +1,4 @@
+pub mod Steps
 pub mod Reaping
 pub mod Unheld
 pub mod Retired

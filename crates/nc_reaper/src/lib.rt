@@ -1,4 +1,4 @@
-//! The reaper: what has expired leaves all channels of an owner, and what nobody holds is used again.
+//! The reaper: what has expired leaves all channels of an owner, channels of which nothing is left go, and what nobody holds is used again.
 //!
 //! A worker stands above, which reaps from time to time. Below is the owner of `nc_owner`, with its slots, alerts and events.
 //! What a reap does is a fold over the channels in `specs/`.
