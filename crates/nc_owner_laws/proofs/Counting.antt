@@ -9,9 +9,10 @@ use Rattle.nc_types.specs.Message.{Message}
 use Rattle.nc_journal.specs.History.{onto}
 use Rattle.nc_journal.specs.Leaving.{grants_since}
 use Rattle.nc_journal.specs.declared.event.Event.{Event}
-use Rattle.nc_journal.specs.declared.event.Event.TheVariants.{Stored, Granted, Joined, Parted}
+use Rattle.nc_journal.specs.declared.event.Event.TheVariants.{Stored, Granted, Joined, Parted, Removed}
 use Rattle.nc_journal.specs.declared.word.LeftCause.{LeftCause}
-use Rattle.nc_journal.specs.declared.word.LeftCause.TheVariants.{Length, Expired, Spent}
+use Rattle.nc_journal.specs.declared.word.LeftCause.TheVariants.{Length, Expired, Spent, Deleted}
+use Rattle.nc_journal.specs.declared.word.RemovedCause.{RemovedCause}
 use Rattle.nc_journal.proofs.Cuts.{all-weaker}
 use Rattle.nc_buffer.specs.declared.entry.Entry.{Entry}
 use Rattle.nc_buffer.specs.Buffer.{is_expired, is_spent}
@@ -29,6 +30,8 @@ use Rattle.nc_owner.specs.Leave.{left_event, left_row, leavers, spend_events}
 use Rattle.nc_owner.specs.Poll.{polled_slot, polled_all, freed_event, free_slots, freed_events}
 use Rattle.nc_owner.specs.Publish.{Polls, Outcome, late, full, stored, asked, roomy, leaving, lowest_slot, granted_slot, granted_events, told_row, kept_row, stamp, message_of, stored_event, stored_events, roomy_events, post_events, post_bench, cleared_events, publish_cleared, publish_outcome, publish_events, publish_alerts, publish_row}
 use Rattle.nc_owner.specs.Look.{found_on, found_row, looked_event, found_events, answered_events, look_ready, look_events, look_alerts, look_row}
+use Rattle.nc_owner.specs.Edge.{last_in}
+use Rattle.nc_owner.specs.Remove.{removal_lefts, removal_events, removal_alerts, removed_row}
 use Rattle.nc_owner.specs.OtherSteps.{touched_of, touch_events_of, touched_row, info_alerts, parted_events, polled_events, polled_row}
 use Rattle.nc_owner_laws.specs.Kept.{IsIn}
 use Rattle.nc_owner_laws.specs.Counted.{Counts, SlotsCount, NewCount, StepsKeepCount, EntriesCount}
@@ -166,6 +169,10 @@ new_count slots k = subst (λ (x : Slot Message). Counts x 0) (sym (unused_row s
 counted_touch : (c : List ℕ) (row : List (Slot Message)) (s : OwnerAt) → CountedBy row (touch_events_of c row s) (touched_row c row s)
 counted_touch c row s = counted_lefts s.desk.me c Expired (leavers (is_expired s.desk.clock) (bench_of c row s)) row
 
+counted_removed : (c : List ℕ) (cause : RemovedCause) (row : List (Slot Message)) (s : OwnerAt) → CountedBy row (removal_events c cause s) (removed_row c row s)
+counted_removed c cause row s =
+    counted_then row (removed_row c row s) (removed_row c row s) (removal_lefts c Deleted s) (Removed s.desk.me c (last_in c s) cause ∷ []) (counted_lefts s.desk.me c Deleted (entries_of (opened c s)) row) (λ slot n told. told)
+
 counted_parted : (b : Bool) (w : ℕ) (c : List ℕ) (m : Member) (row : List (Slot Message)) → CountedBy row (cond b (Parted w c m.from m.k ∷ []) []) row
 counted_parted true w c m row slot n a = a
 counted_parted false w c m row slot n a = a
@@ -218,6 +225,7 @@ steps_keep_count next row h s a = record {
   info = λ from r c. counted_step s.desk.me next (touch_events_of c row s) (info_alerts from r c row s) row (touched_row c row s) h (counted_touch c row s) a;
   sweep = λ c. counted_step s.desk.me next (touch_events_of c row s) [] row (touched_row c row s) h (counted_touch c row s) a;
   look = λ from number c id. counted_step s.desk.me next (look_events from number c id row s) (look_alerts from number c id row s) row (look_row from c id row s) h (counted_look from number c id row s) a;
+  remove = λ c cause. counted_step s.desk.me next (removal_events c cause s) (removal_alerts c s) row (removed_row c row s) h (counted_removed c cause row s) a;
   polled = λ answers. counted_step s.desk.me next (polled_events answers s) [] row (polled_row answers row) h (counted_frees s.desk.me answers row) a;
   publish = λ from o polls. counted_step s.desk.me next (publish_events from o polls row s) (publish_alerts from o polls row s) row (publish_row o polls row s) h (counted_publish from o polls row s) a;
 }

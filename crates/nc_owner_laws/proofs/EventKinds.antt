@@ -4,7 +4,9 @@ use Rattle.nc_types.specs.Id.{Id}
 use Rattle.nc_types.specs.Message.{Message}
 use Rattle.nc_journal.specs.declared.event.Event.TheVariants.{Parted}
 use Rattle.nc_journal.specs.declared.word.LeftCause.{LeftCause}
-use Rattle.nc_journal.specs.declared.word.LeftCause.TheVariants.{Expired, Spent, Length}
+use Rattle.nc_journal.specs.declared.word.LeftCause.TheVariants.{Expired, Spent, Length, Deleted}
+use Rattle.nc_journal.specs.declared.word.RemovedCause.{RemovedCause}
+use Rattle.nc_journal.specs.declared.word.RemovedCause.TheVariants.{Reaped, Deleted as ByDeletion}
 use Rattle.nc_buffer.specs.declared.entry.Entry.{Entry}
 use Rattle.nc_buffer.specs.Buffer.{is_expired, is_spent}
 use Rattle.nc_slots.specs.declared.slot.Slot.{Slot}
@@ -12,12 +14,13 @@ use Rattle.nc_owner.specs.declared.order.Order.{Order}
 use Rattle.nc_owner.specs.declared.member.Member.{Member}
 use Rattle.nc_owner.specs.declared.desk.Desk.{Desk}
 use Rattle.nc_owner.specs.Members.{has_member}
-use Rattle.nc_owner.specs.State.{OwnerAt, Bench, bench_of, opened}
+use Rattle.nc_owner.specs.State.{OwnerAt, Bench, entries_of, exists, bench_of, opened}
 use Rattle.nc_owner.specs.Leave.{left_event, leavers, touched}
 use Rattle.nc_owner.specs.Poll.{freed_event, free_slots}
 use Rattle.nc_owner.specs.Publish.{Polls, Outcome, late, stored, full, asked, roomy, leaving, lowest_slot, granted_events, post_events, stored_events, roomy_events, cleared_events, publish_cleared, publish_outcome, publish_events}
 use Rattle.nc_owner.specs.Look.{found_on, looked_event, found_events, look_ready, look_events}
-use Rattle.nc_owner.specs.OtherSteps.{touch_events_of}
+use Rattle.nc_owner.specs.Remove.{removal_lefts, events_of_removal, is_reaped}
+use Rattle.nc_owner.specs.OtherSteps.{touch_events_of, touch_after}
 use Rattle.nc_owner_laws.specs.Kinds.{IsOfOwner, AreOfOwner, OwnersKinds}
 use Rattle.nc_owner_laws.proofs.Kept.{all_append}
 use Rattle.nc_owner_laws.proofs.Fences.{raise_are}
@@ -45,6 +48,10 @@ of_found from number c id (Some e) d = (refl, (refl, tt))
 
 of_touch : (c : List ℕ) (row : List (Slot Message)) (s : OwnerAt) → AreOfOwner s.desk.me (touch_events_of c row s)
 of_touch c row s = of_left s.desk.me c Expired (leavers (is_expired s.desk.clock) (bench_of c row s))
+
+pub of_removal : (goes : Bool) (cause : RemovedCause) (c : List ℕ) (s : OwnerAt) → AreOfOwner s.desk.me (events_of_removal goes cause c s)
+of_removal true cause c s = all_append (IsOfOwner s.desk.me) (removal_lefts c Deleted s) _ (of_left s.desk.me c Deleted (entries_of (opened c s))) (refl, tt)
+of_removal false cause c s = tt
 
 of_post : (from : ℕ) (o : Order) (polls : Polls) (x : Outcome) (b : Bench) → AreOfOwner b.desk.me (post_events x from o polls b)
 of_post from o polls late b = tt
@@ -77,6 +84,8 @@ owners_kinds row s = record {
   part = λ m c. all_append (IsOfOwner s.desk.me) (touch_events_of c row s) _ (of_touch c row s) (of_parted s.desk.me (has_member m (opened c s).members) c m);
   look = of_look row s;
   raise = λ fence. raise_are (IsOfOwner s.desk.me) fence s refl;
+  delete = λ c. all_append (IsOfOwner s.desk.me) (touch_events_of c row s) _ (of_touch c row s) (of_removal (exists c s) ByDeletion c (touch_after c row s));
+  sweep = λ c. all_append (IsOfOwner s.desk.me) (touch_events_of c row s) _ (of_touch c row s) (of_removal (is_reaped c row s) Reaped c (touch_after c row s));
   edge = λ from number k c. all_append (IsOfOwner s.desk.me) (touch_events_of c row s) _ (of_touch c row s) (refl, tt);
   polled = λ answers. of_freed s.desk.me (free_slots answers);
   publish = of_publish row s;

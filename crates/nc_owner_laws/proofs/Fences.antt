@@ -125,7 +125,7 @@ module _ (me workers slots first : ℕ) (row : List (Slot Message)) (h : List Ev
   is_look : s.desk.looks ≡ (desk_of (new_desk me workers slots first) h).looks
   is_look = ap (λ (d : Desk). d.looks) k.tells.desk
 
-  is_last : (c : List ℕ) → last_in c s ≡ last_of c h
+  pub is_last : (c : List ℕ) → last_in c s ≡ last_of c h
   is_last c =
       let start = new_desk me workers slots first in
       let d = desk_of start h in

@@ -142,7 +142,7 @@ map_members : (f : Channel → Channel) → ((ch : Channel) → (f ch).members �
 map_members f e None = refl
 map_members f e (Some ch) = e ch
 
-made_members : (o : Option Channel) (sp : Id) → (unwrap_or o (made sp)).members ≡ members_in o
+pub made_members : (o : Option Channel) (sp : Id) → (unwrap_or o (made sp)).members ≡ members_in o
 made_members None sp = refl
 made_members (Some ch) sp = refl
 

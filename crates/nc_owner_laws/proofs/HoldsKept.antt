@@ -13,7 +13,7 @@ use Rattle.nc_slots.specs.declared.slot.Slot.{Slot}
 use Rattle.nc_slots.specs.declared.slot.Slot.TheVariants.{Unused, Buffered, Retired}
 use Rattle.nc_slots.specs.Slot.{slot_at, most_holds, granted, retired, filled, is_unused, lowest_unused}
 use Rattle.nc_owner.specs.declared.order.Order.{Order}
-use Rattle.nc_owner.specs.State.{OwnerAt, Bench, bench_of, entries_of}
+use Rattle.nc_owner.specs.State.{OwnerAt, Bench, bench_of, entries_of, opened}
 use Rattle.nc_owner.specs.Leave.{leavers}
 use Rattle.nc_owner.specs.Ascending.{ascending}
 use Rattle.nc_owner.specs.Publish.{Polls, Outcome, late, stored, full as is_all, asked, roomy, leaving, slots_of, lowest_slot, granted_slot, one_hold, told_row, kept_row, post_bench, post_holds, publish_cleared, publish_outcome, publish_row, publish_holds, message_of, stamp, PublishPolls}
@@ -181,6 +181,7 @@ polls_are_told counts o row s polls p = λ i. record {
 pub holds_kept : HoldsKept
 holds_kept row counts s k f = record {
   touch = λ c. touch_holds c row counts s f;
+  remove = λ c. left_fits (entries_of (opened c s)) row counts f;
   look = λ from c id. look_holds_fit from c id row counts s k f;
   polled = polled_fits s.desk.retired row counts f;
   release = λ slot n. let low = one_less_low counts slot n in let had = f n in omega (arith, low, had);

@@ -61,7 +61,7 @@ pub slots_append : (xs ys : List Entry) → slots_in (xs ++ ys) ≡ slots_in xs 
 slots_append [] ys = refl
 slots_append (x ∷ xs) ys = ap (λ (l : List ℕ). x.slot ∷ l) (slots_append xs ys)
 
-all_drop : {X : Type 0} (P : X → Type 0) (n : ℕ) (xs : List X) → AllByRecursion P xs → AllByRecursion P (drop n xs)
+pub all_drop : {X : Type 0} (P : X → Type 0) (n : ℕ) (xs : List X) → AllByRecursion P xs → AllByRecursion P (drop n xs)
 all_drop P zero xs a = a
 all_drop P (suc n) [] a = tt
 all_drop P (suc n) (x ∷ xs) a = all_drop P n xs a.1

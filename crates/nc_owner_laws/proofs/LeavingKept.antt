@@ -11,11 +11,13 @@ use Rattle.nc_types.specs.Message.{Message as SlotMessage}
 use Rattle.nc_journal.specs.History.{own, onto, Along, AtEachCut, is_by}
 use Rattle.nc_journal.specs.Stamp.{clock_of}
 use Rattle.nc_journal.specs.Message.{Message, buffer, published, is_gone, message_of, IsRising}
-use Rattle.nc_journal.specs.Leaving.{is_expired as has_expired, HasMessage, StandsFirst, MakesWay, MakesRoom, grants_since, most_grants, LeavesBy, LeftAt, NoneExpired, FindsAt, IsLeavingRule}
+use Rattle.nc_journal.specs.Leaving.{is_expired as has_expired, HasMessage, StandsFirst, MakesWay, MakesRoom, GoesToo, GoesNext, grants_since, most_grants, LeavesBy, LeftAt, NoneExpired, FindsAt, IsLeavingRule}
 use Rattle.nc_journal.specs.declared.event.Event.{Event}
 use Rattle.nc_journal.specs.declared.event.Event.TheVariants.{Stored, Left, Looked, Edged, Granted, Freed, Joined, Parted, Removed}
 use Rattle.nc_journal.specs.declared.word.LeftCause.{LeftCause}
-use Rattle.nc_journal.specs.declared.word.LeftCause.TheVariants.{Length, Expired, Spent}
+use Rattle.nc_journal.specs.declared.word.LeftCause.TheVariants.{Length, Expired, Spent, Deleted}
+use Rattle.nc_journal.specs.declared.word.RemovedCause.{RemovedCause}
+use Rattle.nc_journal.specs.declared.word.RemovedCause.TheVariants.{Deleted as ByDeletion}
 use Rattle.nc_journal.proofs.Buffers.{rising-filtered}
 use Rattle.nc_journal.proofs.Cuts.{cut-turn, cut-weaker, onto-append, all-weaker, all-both}
 use Rattle.nc_journal.proofs.Leavings.{without, without_all, without-first, buffer-left, without_all-filter, without_all-take, has-still, has-passed, left-more, id_eq-self}
@@ -31,12 +33,15 @@ use Rattle.nc_owner.specs.State.{OwnerAt, entries_of, found, opened}
 use Rattle.nc_owner.specs.Leave.{left_event, leavers, spend_events}
 use Rattle.nc_owner.specs.Poll.{freed_event, free_slots, freed_events}
 use Rattle.nc_owner.specs.Publish.{Outcome, late, full, stored, asked, roomy, leaving, leaving_count, lowest_slot, granted_events, stamp, stored_event, post_events, post_alerts, publish_cleared, publish_outcome}
+use Rattle.nc_owner.specs.Edge.{last_in}
+use Rattle.nc_owner.specs.Remove.{removal_alerts}
 use Rattle.nc_owner.specs.Look.{found_on, looked_event, found_events, look_ready, look_events, look_alerts}
 use Rattle.nc_owner.specs.OtherSteps.{touched_of, touch_events_of, info_alerts, polled_events}
 use Rattle.nc_owner_laws.specs.Filters.{new_desk}
 use Rattle.nc_owner_laws.specs.Buffered.{Brief, brief_entry, brief_message}
 use Rattle.nc_owner_laws.specs.OwnerStanding.{Stands}
 use Rattle.nc_owner_laws.specs.LeavingKept.{AreCounted, OthersLeave, PublishLeaves}
+use Rattle.nc_owner_laws.specs.Removing.{removed_onto}
 use Rattle.nc_owner_laws.specs.Weave.{weave, makes, numbered}
 use Rattle.nc_owner_laws.proofs.Buffering.{made_entries}
 use Rattle.nc_owner_laws.proofs.Events.{name_self}
@@ -435,6 +440,58 @@ module _ (workers w : ℕ) (c : List ℕ) (mine : w ≡ owner_of workers c) wher
   buffer_freed [] h = refl
   buffer_freed (slot ∷ slots) h = buffer_freed slots (Freed w slot ∷ h)
 
+  -- ---- all leave, and the channel is deleted
+
+  abbrev AreToo : List Event → Type 0
+  AreToo es = AllByRecursion (GoesToo c) es
+
+  too_onto : (es h : List Event) → AreToo es → AreToo h → AreToo (onto es h)
+  too_onto [] h a b = b
+  too_onto (e ∷ es) h a b = too_onto es (e ∷ h) a.1 (a.0, b)
+
+  too_own : (h : List Event) → AreToo h → AreToo (own w h)
+  too_own [] a = tt
+  too_own (e ∷ h) a = by (is_by w e) (too_own h a.1)
+    where
+      by : (b : Bool) → AreToo (own w h) → AreToo (cond b (e ∷ own w h) (own w h))
+      by true rest = (a.0, rest)
+      by false rest = rest
+
+  too_lefts : (ms : List Message) → AreToo (lefts_of w c Deleted ms)
+  too_lefts [] = tt
+  too_lefts (m ∷ ms) = (refl, too_lefts ms)
+
+  goes_next : (last : Id) (too after : List Event) → AreToo too → GoesNext w c (onto (too ++ Removed w c last ByDeletion ∷ after) [])
+  goes_next last too after are = record {
+    after = onto after [];
+    last = last;
+    between = onto too [];
+    next = onto-append too (Removed w c last ByDeletion ∷ after) [] ∙ onto_on after (Removed w c last ByDeletion ∷ onto too []);
+    too = too_own (onto too []) (too_onto too [] are tt);
+  }
+
+  deleted_leave : (last : Id) (after : List Event) (ms : List Message) (h : List Event) → buffer c h ≡ ms → IsRising ms → Leave workers (Removed w c last ByDeletion ∷ after) (onto (lefts_of w c Deleted ms) h)
+      → Leave workers (lefts_of w c Deleted ms ++ Removed w c last ByDeletion ∷ after) h
+  deleted_leave last after [] h are rises rest = rest
+  deleted_leave last after (m ∷ ms) h are rises rest = (
+    record { owner = mine; why = (subst (λ l. StandsFirst l m.id m.slot) (sym are) (refl, refl), goes_next last (lefts_of w c Deleted ms) after (too_lefts ms)) },
+    deleted_leave last after ms (Left w c m.id m.slot Deleted ∷ h) (buffer_first m.id m.slot Deleted h ∙ ap (without m.id) are ∙ without-first m ms rises) rises.1 rest,
+  )
+
+  all_pass : (ms : List Message) → filter (λ m. true) ms ≡ ms
+  all_pass [] = refl
+  all_pass (m ∷ ms) = ap (λ l. m ∷ l) (all_pass ms)
+
+  none_passes : (ms : List Message) → filter (λ m. not true) ms ≡ []
+  none_passes [] = refl
+  none_passes (m ∷ ms) = none_passes ms
+
+  -- then nothing is kept
+  deleted_buffer : (h : List Event) → IsRising (buffer c h) → buffer c (onto (lefts_of w c Deleted (buffer c h)) h) ≡ []
+  deleted_buffer h rises =
+      let ms = buffer c h in
+      buffer_lefts Deleted ms h ∙ ap (λ l. without_all l ms) (sym (all_pass ms)) ∙ without_all-filter (λ m. true) ms rises ∙ none_passes ms
+
   -- ---- one more is stored
 
   filter_fewer : (p q : Message → Bool) → ((m : Message) → p m ≡ true → q m ≡ true) → (ms : List Message) → length (filter p ms) ≤ length (filter q ms)
@@ -568,6 +625,42 @@ module _ (me workers slots first : ℕ) (next : ℕ → ℕ) (row : List (Slot S
     part_leaves m true = behind_touch (Parted v c m.from m.k ∷ []) [] (tt, tt) (finds, tt)
     part_leaves m false = behind_touch [] [] tt tt
 
+    -- ---- a removal where nothing is kept
+
+    none_there : (P : Message → Type 0) (ms : List Message) → [] ≡ map brief_message ms → AllByRecursion P ms
+    none_there P [] e = tt
+    none_there P (m ∷ ms) e = absurd cc
+
+    empty_leaves : (cause : RemovedCause) → es ≡ [] → IsLeavingRule workers (removed_onto next c cause h s)
+    empty_leaves cause none =
+        let last = Removed v c (last_in c s) cause in
+        let made = makes v next (removal_alerts c s) in
+        let mute = mute_makes v next (removal_alerts c s) in
+        subst (λ (l : List Entry). IsLeavingRule workers (onto (weave v next (map (left_event v c Deleted) l ++ last ∷ []) (removal_alerts c s)) h)) (sym none)
+        (kept workers (last ∷ made) h rule (tt, leave_always workers made (last ∷ h) (mute_leave workers made (last ∷ h) mute))
+        (none_there (λ m. has_expired (clock_of (own v h)) m ≡ false) (buffer c h) (ap (map brief_entry) (sym none) ∙ same), mute_find made (last ∷ h) mute))
+
+    -- ---- a deletion
+
+    delete_leaves : IsLeavingRule workers (removed_onto next c ByDeletion h s)
+    delete_leaves =
+        let alerts = removal_alerts c s in
+        let last = Removed v c (last_in c s) ByDeletion in
+        let made = makes v next alerts in
+        let mute = mute_makes v next alerts in
+        let ms = buffer c h in
+        let lefts = lefts_of v c Deleted ms in
+        let h1 = onto lefts h in
+        let lefts_are : map (left_event v c Deleted) es ≡ lefts = same_lefts v c Deleted es ms same in
+        let empty : buffer c h1 ≡ [] = deleted_buffer workers v c (sym owned) h rises in
+        let none : NoneExpired v c h1 = subst (AllByRecursion (λ m. has_expired (clock_of (own v h1)) m ≡ false)) (sym empty) tt in
+        let leave : Leave workers (lefts ++ last ∷ made) h =
+        deleted_leave workers v c (sym owned) (last_in c s) made ms h refl rises (tt, leave_always workers made (last ∷ h1) (mute_leave workers made (last ∷ h1) mute)) in
+        let find : Find (lefts ++ last ∷ made) h = find_append lefts (last ∷ made) h (lefts_find workers v c (sym owned) Deleted ms h) (none, mute_find made (last ∷ h1) mute) in
+        let all : IsLeavingRule workers (onto (lefts ++ last ∷ made) h) = kept workers (lefts ++ last ∷ made) h rule leave find in
+        subst (λ (l : List Event). IsLeavingRule workers (onto l h)) (sym (weave_first v next (map (left_event v c Deleted) es) (last ∷ []) alerts (hearing.stills (map (left_event v c Deleted) es) (hearing.still_left v c Deleted es)).1))
+        (subst (λ (l : List Event). IsLeavingRule workers (onto (l ++ last ∷ made) h)) (sym lefts_are) all)
+
     -- ---- a look
 
     abbrev stay : List Entry
@@ -672,6 +765,8 @@ others_leave me workers slots first next row h s k rule = record {
   info = λ from r c owned. behind_touch_alone me workers slots first next row h s k rule c owned (info_alerts from r c row s);
   sweep = λ c owned. behind_touch_alone me workers slots first next row h s k rule c owned [];
   look = λ from number c id owned counted. look_leaves me workers slots first next row h s k rule c owned from number id counted;
+  delete = λ c owned. delete_leaves me workers slots first next row h s k rule c owned;
+  remove_empty = λ c cause owned none. empty_leaves me workers slots first next row h s k rule c owned cause none;
   polled = λ answers.
       let es = polled_events answers s in
       let mute = mute_weave s.desk.me next es [] (mute_freed s.desk.me (free_slots answers)) in

@@ -41,3 +41,6 @@ pub mod LeavingKept
 pub mod Counting
 pub mod RemovalKept
 pub mod Fences
+pub mod Removes
+pub mod OwnChannels
+pub mod Sweeping

@@ -1,5 +1,5 @@
 -- An owner stands for its history behind the removal of a channel.
-use Rattle.std.proofs.Common.{◌≡◌, ℕ, Bool, true, false, cond, not, List, [], ◌∷◌, ◌++◌, None, refl, sym, ap, ◌∙◌, subst, arith, map, filter, fold}
+use Rattle.std.proofs.Common.{◌≡◌, ℕ, Bool, true, false, cond, not, List, [], ◌∷◌, ◌++◌, None, refl, sym, ap, ◌∙◌, subst, map, filter, fold}
 use Rattle.std.specs.List.{AllByRecursion}
 use Rattle.nc_types.specs.Id.{Id}
 use Rattle.nc_types.specs.Channel.{owner_of, name_eq}
@@ -18,27 +18,26 @@ use Rattle.nc_buffer.specs.declared.entry.Entry.{Entry}
 use Rattle.nc_slots.specs.declared.slot.Slot.{Slot}
 use Rattle.nc_owner.specs.declared.desk.Desk.{Desk}
 use Rattle.nc_owner.specs.AlertLines.{OutLine}
-use Rattle.nc_owner.specs.Leave.{left_event, left_by, left_row}
-use Rattle.nc_owner.specs.State.{OwnerAt, Bench, entries_of, with_entries, found, opened, bench_of}
+use Rattle.nc_owner.specs.Leave.{left_event, left_by}
+use Rattle.nc_owner.specs.State.{OwnerAt, entries_of, found, opened, bench_of}
+use Rattle.nc_owner.specs.Remove.{removed_after, removal_lefts}
 use Rattle.nc_owner_laws.specs.Buffered.{brief_entry, brief_message, LeavesStored}
 use Rattle.nc_owner_laws.specs.Filters.{new_desk}
-use Rattle.nc_owner_laws.specs.Fits.{Fits, BenchFits}
 use Rattle.nc_owner_laws.specs.OwnerStanding.{Stands}
 use Rattle.nc_owner_laws.specs.OwnerTold.{desk_of, channel_of, desk_with, Tells}
 use Rattle.nc_owner_laws.specs.Removal.{IsLeft}
-use Rattle.nc_owner_laws.specs.RemovalStands.{removed_row, removed_after, removal_lefts, RemovalStands}
+use Rattle.nc_owner_laws.specs.RemovalStands.{RemovalStands}
 use Rattle.nc_owner_laws.specs.Weave.{weave, makes, numbered}
 use Rattle.nc_owner_laws.proofs.After.{onto_desk, onto_channel, found_after, name_is}
 use Rattle.nc_owner_laws.proofs.Buffering.{made_entries}
 use Rattle.nc_owner_laws.proofs.Events.{desk_left, other_left}
 use Rattle.nc_owner_laws.proofs.Kept.{all_append}
-use Rattle.nc_owner_laws.proofs.Leaving.{leave_fits}
 use Rattle.nc_owner_laws.proofs.LeavingKept.{same_lefts, buffer_lefts}
-use Rattle.nc_owner_laws.proofs.Opening.{rest_of, opened_fits, gone_fits}
 use Rattle.nc_owner_laws.proofs.Owners.{IsBy, own_onto, by_is, by_left, all_woven, left_onto, entries_stored}
 use Rattle.nc_owner_laws.proofs.Removal.{removal_is, removal_wakes, removal_past}
 use Rattle.nc_owner_laws.proofs.Showing.{stands_shows}
 use Rattle.nc_owner_laws.proofs.Stamping as stamping
+use Rattle.nc_owner_laws.proofs.Steps.{remove_fits}
 use Rattle.nc_owner_laws.proofs.StepEvents.{left_stays}
 
 -- ---- what is made behind it tells nothing
@@ -61,7 +60,7 @@ made_stored v next (a ∷ alerts) h k = made_stored v (numbered next a.to) alert
 
 -- ---- all that a channel keeps leaves
 
-are_left : (w : ℕ) (c : List ℕ) (cause : LeftCause) (es : List Entry) → AllByRecursion IsLeft (map (left_event w c cause) es)
+pub are_left : (w : ℕ) (c : List ℕ) (cause : LeftCause) (es : List Entry) → AllByRecursion IsLeft (map (left_event w c cause) es)
 are_left w c cause [] = tt
 are_left w c cause (e ∷ es) = (tt, are_left w c cause es)
 
@@ -80,13 +79,6 @@ none_passes (m ∷ ms) = none_passes ms
 all_without : (ms : List Message) → IsRising ms → without_all ms ms ≡ []
 all_without ms rises = ap (λ l. without_all l ms) (sym (all_pass ms)) ∙ without_all-filter (λ m. true) ms rises ∙ none_passes ms
 
--- the bench of a channel once all its entries have left
-abbrev emptied : Bench → Bench
-emptied b = record { desk = left_by (entries_of b.channel) b.desk; row = fold left_row b.row (entries_of b.channel); channel = with_entries [] b.channel }
-
-emptied_fits : (rest : List Entry) (b : Bench) → BenchFits rest b → BenchFits rest (emptied b)
-emptied_fits rest b f = leave_fits rest [] (entries_of b.channel) (entries_of b.channel) b refl (λ k. omega arith) (omega arith) (λ a. tt) (λ r. record { rises = tt; below = tt }) f
-
 module _ (me workers slots first : ℕ) (next : ℕ → ℕ) (c : List ℕ) (last : Id) (left : LeftCause) (cause : RemovedCause) (alerts : List OutLine) (row : List (Slot SlotMessage)) (h : List Event) (s : OwnerAt) (mine : owner_of workers c ≡ me) (is_last : last ≡ last_of c h) (k : Stands me workers slots first row h s) where
   is_me : s.desk.me ≡ me
   is_me = ap (λ (d : Desk). d.me) k.tells.desk ∙ stamping.me_law (new_desk me workers slots first) h
@@ -96,11 +88,6 @@ module _ (me workers slots first : ℕ) (next : ℕ → ℕ) (c : List ℕ) (las
 
   local : own s.desk.me h ≡ h
   local = ap (λ n. own n h) is_me ∙ k.local
-
-  fits : Fits (removed_row c row s) (removed_after c last s)
-  fits =
-      let g = gone_fits c (emptied (bench_of c row s)) row s k.fits (emptied_fits (rest_of c s) (bench_of c row s) (opened_fits c row s k.fits)) refl in
-      record { names = g.names; slots = g.slots; apart = g.apart; number = g.number; kept = g.kept; regular = g.regular }
 
   tells : Tells (new_desk me workers slots first) (onto (makes s.desk.me next alerts) (Removed s.desk.me c last cause ∷ onto (removal_lefts c left s) h)) (removed_after c last s)
   tells =
@@ -158,7 +145,7 @@ removal_stands me workers slots first next c last left cause alerts row h s mine
     let is = removal_is v next c last cause lefts alerts h are in
     let last1 : last ≡ last_of c (own v h1) = is_last ∙ sym (left_last v c c left (entries_of (opened c s)) h) ∙ ap (last_of c) (sym (local1 me workers slots first next c last left cause alerts row h s mine is_last k)) in
     record {
-      fits = fits me workers slots first next c last left cause alerts row h s mine is_last k;
+      fits = remove_fits c last row s k.fits;
       local = own_onto me (weave v next (lefts ++ Removed v c last cause ∷ []) alerts) h
           (all_woven (IsBy me) v next (λ to n a. by_is me v (is_me me workers slots first next c last left cause alerts row h s mine is_last k)) (lefts ++ Removed v c last cause ∷ []) alerts (by_me me workers slots first next c last left cause alerts row h s mine is_last k)) k.local;
       tells = subst (λ (l : List Event). Tells (new_desk me workers slots first) l (removed_after c last s)) (sym is) (tells me workers slots first next c last left cause alerts row h s mine is_last k);

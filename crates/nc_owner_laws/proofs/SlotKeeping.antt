@@ -10,9 +10,9 @@ use Rattle.nc_types.specs.Message.{Message}
 use Rattle.nc_journal.specs.History.{own, onto, Along}
 use Rattle.nc_journal.specs.Holding.{Unused as UnusedStage, Retired as RetiredStage, slot_stage, TakesLowestUnused}
 use Rattle.nc_journal.specs.declared.event.Event.{Event}
-use Rattle.nc_journal.specs.declared.event.Event.TheVariants.{Stored, Granted, Freed, Joined, Parted}
+use Rattle.nc_journal.specs.declared.event.Event.TheVariants.{Stored, Granted, Freed, Joined, Parted, Removed}
 use Rattle.nc_journal.specs.declared.word.LeftCause.{LeftCause}
-use Rattle.nc_journal.specs.declared.word.LeftCause.TheVariants.{Length, Expired, Spent}
+use Rattle.nc_journal.specs.declared.word.LeftCause.TheVariants.{Length, Expired, Spent, Deleted}
 use Rattle.nc_buffer.specs.declared.entry.Entry.{Entry}
 use Rattle.nc_buffer.specs.Buffer.{is_expired, is_spent}
 use Rattle.nc_slots.specs.declared.slot.Slot.{Slot}
@@ -31,6 +31,8 @@ use Rattle.nc_owner.specs.Leave.{left_event, left_row, leavers, spend_events}
 use Rattle.nc_owner.specs.Poll.{polled_slot, slot_of, is_free, freed_event, free_slots, freed_events}
 use Rattle.nc_owner.specs.Publish.{Polls, Outcome, late, full, stored, asked, roomy, leaving, leaving_count, slots_of, lowest_slot, granted_events, stamp, stored_event, post_events, cleared_events, publish_cleared, publish_outcome, publish_alerts}
 use Rattle.nc_owner.specs.Look.{found_on, looked_event, found_events, look_ready, look_events, look_alerts}
+use Rattle.nc_owner.specs.Edge.{last_in}
+use Rattle.nc_owner.specs.Remove.{removal_lefts, removal_events, removal_alerts}
 use Rattle.nc_owner.specs.OtherSteps.{touched_of, touch_events_of, info_alerts, parted_events, polled_events}
 use Rattle.nc_owner_laws.specs.Used.{is_retired, bit, times}
 use Rattle.nc_owner_laws.specs.Filters.{new_desk}
@@ -220,6 +222,8 @@ others_keep_slots me workers slots first_number next row h s k a rule = record {
       (all_append IsPlain (touch_events_of c row s ++ spend_events c (touched_of c row s)) _
       (all_append IsPlain (touch_events_of c row s) (spend_events c (touched_of c row s)) (plain_touch c row s) (plain_left s.desk.me c Spent (leavers is_spent (touched_of c row s))))
       (plain_found from number c id (found_on id (look_ready c row s)) (look_ready c row s).desk)) rule;
+  remove = λ c cause. stays_on me slots s.desk.me next (removal_events c cause s) (removal_alerts c s) h
+      (all_append IsPlain (removal_lefts c Deleted s) (Removed s.desk.me c (last_in c s) cause ∷ []) (plain_left s.desk.me c Deleted (entries_of (opened c s))) (tt, tt)) rule;
   polled = λ answers each. polled_kept me workers slots first_number next row h s k a rule answers each;
 }
 

@@ -11,9 +11,10 @@ use Rattle.nc_types.specs.Message.{Message}
 use Rattle.nc_journal.specs.History.{onto}
 use Rattle.nc_journal.specs.Holding.{SlotStage, Unused as UnusedStage, Buffered as BufferedStage, Retired as RetiredStage, slot_stage, stored_stage}
 use Rattle.nc_journal.specs.declared.event.Event.{Event}
-use Rattle.nc_journal.specs.declared.event.Event.TheVariants.{Stored, Left, Granted, Freed, Joined, Parted}
+use Rattle.nc_journal.specs.declared.event.Event.TheVariants.{Stored, Left, Granted, Freed, Joined, Parted, Removed}
 use Rattle.nc_journal.specs.declared.word.LeftCause.{LeftCause}
-use Rattle.nc_journal.specs.declared.word.LeftCause.TheVariants.{Length, Expired, Spent}
+use Rattle.nc_journal.specs.declared.word.LeftCause.TheVariants.{Length, Expired, Spent, Deleted}
+use Rattle.nc_journal.specs.declared.word.RemovedCause.{RemovedCause}
 use Rattle.nc_journal.proofs.Cuts.{all-weaker}
 use Rattle.nc_buffer.specs.declared.entry.Entry.{Entry}
 use Rattle.nc_buffer.specs.Buffer.{is_expired, is_spent}
@@ -32,6 +33,8 @@ use Rattle.nc_owner.specs.Leave.{left_event, left_row, leavers, spend_events}
 use Rattle.nc_owner.specs.Poll.{polled_slot, polled_all, slot_of, is_free, freed_event, freed_events}
 use Rattle.nc_owner.specs.Publish.{Polls, Outcome, late, full, stored, asked, roomy, leaving, leaving_count, slots_of, lowest_slot, granted_slot, granted_events, told_row, kept_row, stamp, message_of, stored_event, stored_events, roomy_events, post_events, post_bench, cleared_events, publish_cleared, publish_outcome, publish_events, publish_alerts, publish_row}
 use Rattle.nc_owner.specs.Look.{found_on, found_row, looked_event, found_events, answered_events, look_ready, look_events, look_alerts, look_row}
+use Rattle.nc_owner.specs.Edge.{last_in}
+use Rattle.nc_owner.specs.Remove.{removal_lefts, removal_events, removal_alerts, removed_row}
 use Rattle.nc_owner.specs.OtherSteps.{touched_of, touch_events_of, touched_row, info_alerts, parted_events, polled_events, polled_row}
 use Rattle.nc_owner_laws.specs.Used.{is_retired, bit, times, Agrees}
 use Rattle.nc_owner_laws.specs.Kept.{slots_in, IsIn, AreIn}
@@ -312,6 +315,12 @@ new_staged slots k = ap stage_in (sym (unused_row slots k))
 pub staged_touch : (c : List ℕ) (row : List (Slot Message)) (s : OwnerAt) → Fits row s → StagedBy row (touch_events_of c row s) (touched_row c row s)
 staged_touch c row s f = staged_let_go s.desk.me c Expired (is_expired s.desk.clock) (rest_of c s) (bench_of c row s) (opened_fits c row s f)
 
+staged_removed : (c : List ℕ) (cause : RemovedCause) (row : List (Slot Message)) (s : OwnerAt) → Fits row s → StagedBy row (removal_events c cause s) (removed_row c row s)
+staged_removed c cause row s f =
+    let es = entries_of (opened c s) in
+    staged_then row (removed_row c row s) (removed_row c row s) (removal_lefts c Deleted s) (Removed s.desk.me c (last_in c s) cause ∷ [])
+    (staged_lefts s.desk.me c Deleted es row (all_used row es (opened_fits c row s f).kept)) (λ slot. refl)
+
 staged_parted : (b : Bool) (w : ℕ) (c : List ℕ) (m : Member) (row : List (Slot Message)) → StagedBy row (cond b (Parted w c m.from m.k ∷ []) []) row
 staged_parted true w c m row slot = refl
 staged_parted false w c m row slot = refl
@@ -337,6 +346,7 @@ others_staged next row h s f a = record {
   info = λ from r c. staged_step s.desk.me next (touch_events_of c row s) (info_alerts from r c row s) row (touched_row c row s) h (staged_touch c row s f) a;
   sweep = λ c. staged_step s.desk.me next (touch_events_of c row s) [] row (touched_row c row s) h (staged_touch c row s f) a;
   look = λ from number c id. staged_step s.desk.me next (look_events from number c id row s) (look_alerts from number c id row s) row (look_row from c id row s) h (staged_look from number c id row s f) a;
+  remove = λ c cause. staged_step s.desk.me next (removal_events c cause s) (removal_alerts c s) row (removed_row c row s) h (staged_removed c cause row s f) a;
   polled = λ answers each. staged_step s.desk.me next (polled_events answers s) [] row (polled_row answers row) h
       (staged_frees s.desk.me answers row (all_unbuffered _ _ row answers f.apart (λ k lt. omega (arith, lt, ap (times k) each)))) a;
 }

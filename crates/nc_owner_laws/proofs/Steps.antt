@@ -1,5 +1,5 @@
 -- Each step of an owner keeps that it fits its slots.
-use Rattle.std.proofs.Common.{◌≡◌, ℕ, zero, suc, ◌+◌, Bool, true, false, List, [], Option, Some, None, refl, sym, ap, ◌∙◌, arith, replicate}
+use Rattle.std.proofs.Common.{◌≡◌, ℕ, zero, suc, ◌+◌, Bool, true, false, List, [], Option, Some, None, refl, sym, ap, ◌∙◌, arith, replicate, fold}
 use Rattle.std.specs.Prelude.{is_some, unwrap_or, ◌||◌}
 use Rattle.std.proofs.lemmas.Bool.{true≢false, or_parts}
 use Rattle.std.proofs.lemmas.List.{length-replicate}
@@ -14,21 +14,23 @@ use Rattle.nc_slots.specs.declared.slot.Slot.{Slot}
 use Rattle.nc_slots.specs.declared.slot.Slot.TheVariants.{Unused}
 use Rattle.nc_owner.specs.declared.channel.Channel.{Channel}
 use Rattle.nc_owner.specs.declared.order.Order.{Order}
-use Rattle.nc_owner.specs.State.{OwnerAt, Bench, entries_of, found, exists, new_channel, bench_of}
-use Rattle.nc_owner.specs.Leave.{stayers}
+use Rattle.nc_owner.specs.State.{OwnerAt, Bench, entries_of, with_entries, found, exists, new_channel, bench_of}
+use Rattle.nc_owner.specs.Edge.{last_in}
+use Rattle.nc_owner.specs.Leave.{left_by, left_row, stayers}
+use Rattle.nc_owner.specs.Remove.{row_of_removal, after_removal, is_reaped}
 use Rattle.nc_owner.specs.Poll.{held_slots}
 use Rattle.nc_owner.specs.Publish.{Polls, PublishPolls, Outcome, late, full, stored, is_stored, outcome, asked, roomy, lowest_slot, post_bench, publish_cleared, publish_outcome, publish_bench}
-use Rattle.nc_owner.specs.OtherSteps.{touched_of, joined, parted}
+use Rattle.nc_owner.specs.OtherSteps.{touched_of, touched_row, touch_after, joined, parted}
 use Rattle.nc_owner_laws.specs.Used.{is_retired, bit, times}
 use Rattle.nc_owner_laws.specs.Kept.{slots_in}
 use Rattle.nc_owner_laws.specs.Fits.{all_entries, Fits, BenchFits}
-use Rattle.nc_owner_laws.specs.Keeping.{NewFits, TouchFits, JoinFits, PartFits, LookFits, PolledFits, ClockFits, PublishFits, PublishFinds}
+use Rattle.nc_owner_laws.specs.Keeping.{NewFits, TouchFits, RemoveFits, DeleteFits, SweepFits, JoinFits, PartFits, LookFits, PolledFits, ClockFits, PublishFits, PublishFinds}
 use Rattle.nc_owner_laws.proofs.Used.{agrees-same}
-use Rattle.nc_owner_laws.proofs.Leaving.{let_go_fits}
+use Rattle.nc_owner_laws.proofs.Leaving.{leave_fits, let_go_fits}
 use Rattle.nc_owner_laws.proofs.Polling.{length_polled, in_polled_all, held_agree, polled_fits}
 use Rattle.nc_owner_laws.proofs.Storing.{stored_fits}
 use Rattle.nc_owner_laws.proofs.Looking.{look_fits as look_fits_bench}
-use Rattle.nc_owner_laws.proofs.Opening.{rest_of, opened_fits, put_fits, after_fits}
+use Rattle.nc_owner_laws.proofs.Opening.{rest_of, opened_fits, put_fits, gone_fits, after_fits}
 use Rattle.nc_owner_laws.proofs.Room.{asked_fits, roomy_fits, Ready, room_of}
 use Rattle.nc_owner_laws.proofs.Falling.{holds_fall}
 
@@ -80,6 +82,32 @@ look_fits from c id row s f = put_fits c _ row s f (look_fits_bench (rest_of c s
 
 none_more : (n : ℕ) → 0 + n ≡ n
 none_more n = omega arith
+
+-- ---- a removal
+
+-- the bench of a channel once all its entries have left
+abbrev pub emptied : Bench → Bench
+emptied b = record { desk = left_by (entries_of b.channel) b.desk; row = fold left_row b.row (entries_of b.channel); channel = with_entries [] b.channel }
+
+emptied_fits : (rest : List Entry) (b : Bench) → BenchFits rest b → BenchFits rest (emptied b)
+emptied_fits rest b f = leave_fits rest [] (entries_of b.channel) (entries_of b.channel) b refl (λ k. omega arith) (omega arith) (λ a. tt) (λ r. record { rises = tt; below = tt }) f
+
+pub remove_fits : RemoveFits
+remove_fits c last row s f =
+    let g = gone_fits c (emptied (bench_of c row s)) row s f (emptied_fits (rest_of c s) (bench_of c row s) (opened_fits c row s f)) refl in
+    record { names = g.names; slots = g.slots; apart = g.apart; number = g.number; kept = g.kept; regular = g.regular }
+
+removal_fits : (goes : Bool) (c : List ℕ) (row : List (Slot Message)) (s : OwnerAt) → Fits row s → Fits (row_of_removal goes c row s) (after_removal goes c s)
+removal_fits true c row s f = remove_fits c (last_in c s) row s f
+removal_fits false c row s f = f
+
+pub delete_fits : DeleteFits
+delete_fits c row s f = removal_fits (exists c s) c (touched_row c row s) (touch_after c row s) (touch_fits c row s f)
+
+pub sweep_fits : SweepFits
+sweep_fits c row s f = removal_fits (is_reaped c row s) c (touched_row c row s) (touch_after c row s) (touch_fits c row s f)
+
+-- ---- polls of all retired slots, and a clock
 
 pub polled_all_fits : PolledFits
 polled_all_fits answers row s each f = record {

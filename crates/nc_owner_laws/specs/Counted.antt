@@ -6,6 +6,7 @@ use Rattle.nc_types.specs.Message.{Message}
 use Rattle.nc_journal.specs.History.{onto}
 use Rattle.nc_journal.specs.Leaving.{grants_since}
 use Rattle.nc_journal.specs.declared.event.Event.{Event}
+use Rattle.nc_journal.specs.declared.word.RemovedCause.{RemovedCause}
 use Rattle.nc_slots.specs.declared.slot.Slot.{Slot}
 use Rattle.nc_slots.specs.declared.slot.Slot.TheVariants.{Unused, Buffered, Retired}
 use Rattle.nc_slots.specs.Slot.{slot_at}
@@ -16,7 +17,9 @@ use Rattle.nc_owner.specs.State.{OwnerAt, entries_of, opened}
 use Rattle.nc_owner.specs.Publish.{Polls, publish_events, publish_alerts, publish_row}
 use Rattle.nc_owner.specs.Look.{look_events, look_alerts, look_row}
 use Rattle.nc_owner.specs.OtherSteps.{touch_events_of, touched_row, join_events, part_events, info_alerts, polled_events, polled_row}
+use Rattle.nc_owner.specs.Remove.{removed_row}
 use Rattle.nc_owner_laws.specs.Fits.{Fits}
+use Rattle.nc_owner_laws.specs.Removing.{removed_onto}
 use Rattle.nc_owner_laws.specs.Weave.{weave}
 
 -- how often a buffered slot was granted
@@ -42,6 +45,7 @@ pub record StepsCount (next : ℕ → ℕ) (row : List (Slot Message)) (h : List
   pub info : (from r : ℕ) (c : List ℕ) → SlotsCount (touched_row c row s) (onto (weave s.desk.me next (touch_events_of c row s) (info_alerts from r c row s)) h)
   pub sweep : (c : List ℕ) → SlotsCount (touched_row c row s) (onto (weave s.desk.me next (touch_events_of c row s) []) h)
   pub look : (from number : ℕ) (c : List ℕ) (id : Id) → SlotsCount (look_row from c id row s) (onto (weave s.desk.me next (look_events from number c id row s) (look_alerts from number c id row s)) h)
+  pub remove : (c : List ℕ) (cause : RemovedCause) → SlotsCount (removed_row c row s) (removed_onto next c cause h s)
   pub polled : (answers : List PollAnswer) → SlotsCount (polled_row answers row) (onto (weave s.desk.me next (polled_events answers s) []) h)
   pub publish : (from : ℕ) (o : Order) (polls : Polls) → SlotsCount (publish_row o polls row s) (onto (weave s.desk.me next (publish_events from o polls row s) (publish_alerts from o polls row s)) h)
 

@@ -14,6 +14,7 @@ use Rattle.nc_owner.specs.Poll.{told_answer, AnswersFit}
 use Rattle.nc_owner.specs.Publish.{Polls, PublishPolls, cleared, leaving, slots_of, publish_row, publish_holds}
 use Rattle.nc_owner.specs.Look.{look_row, look_holds}
 use Rattle.nc_owner.specs.OtherSteps.{touched_row, polled_row}
+use Rattle.nc_owner.specs.Remove.{removed_row}
 use Rattle.nc_owner_laws.specs.Fits.{Fits}
 
 -- each slot has at most as many holds as it can have
@@ -39,9 +40,10 @@ one_less slot counts = slice_set counts slot (slice_index counts slot - 1)
 abbrev pub NewHoldsFit : Type 0
 NewHoldsFit = (slots : ℕ) → HoldsFit (replicate slots Unused) (replicate slots 0)
 
--- the steps after which it is still so; a join, a part, a question for information and a sweep touch a channel
+-- the steps after which it is still so; a join, a part and a question for information touch a channel, and so do a deletion and a sweep, which then may remove it
 pub record StepsHold (row : List (Slot Message)) (counts : List ℕ) (s : OwnerAt) : Type 0 where
   pub touch : (c : List ℕ) → HoldsFit (touched_row c row s) counts
+  pub remove : (c : List ℕ) → HoldsFit (removed_row c row s) counts
   pub look : (from : ℕ) (c : List ℕ) (id : Id) → HoldsFit (look_row from c id row s) (look_holds from c id row s counts)
   pub polled : HoldsFit (polled_row (told_answers counts s.desk.retired) row) counts
   pub release : (slot : ℕ) → HoldsFit row (one_less slot counts)

@@ -12,6 +12,7 @@ use Rattle.nc_owner.specs.State.{OwnerAt, new_owner}
 use Rattle.nc_owner.specs.Poll.{slot_of, held_slots}
 use Rattle.nc_owner.specs.Publish.{Polls, PublishPolls, stored, roomy, asked, publish_cleared, publish_outcome, publish_row, publish_after}
 use Rattle.nc_owner.specs.Look.{look_row, look_after}
+use Rattle.nc_owner.specs.Remove.{removed_row, removed_after, delete_row, delete_after, sweep_row, sweep_after}
 use Rattle.nc_owner.specs.OtherSteps.{touched_row, touch_after, join_after, part_after, polled_row, polled_after, with_clock}
 use Rattle.nc_owner_laws.specs.Used.{times}
 use Rattle.nc_owner_laws.specs.Fits.{Fits}
@@ -20,7 +21,7 @@ use Rattle.nc_owner_laws.specs.Fits.{Fits}
 abbrev pub NewFits : Type 0
 NewFits = (me workers slots first : ℕ) → Fits (replicate slots Unused) (new_owner me workers slots first)
 
--- a question for information and a sweep
+-- a question for information; a deletion and a sweep begin so
 abbrev pub TouchFits : Type 0
 TouchFits = (c : List ℕ) (row : List (Slot Message)) (s : OwnerAt) → Fits row s → Fits (touched_row c row s) (touch_after c row s)
 
@@ -32,6 +33,16 @@ PartFits = (m : Member) (c : List ℕ) (row : List (Slot Message)) (s : OwnerAt)
 
 abbrev pub LookFits : Type 0
 LookFits = (from : ℕ) (c : List ℕ) (id : Id) (row : List (Slot Message)) (s : OwnerAt) → Fits row s → Fits (look_row from c id row s) (look_after from c id row s)
+
+-- a removal, a deletion, and a sweep of one channel
+abbrev pub RemoveFits : Type 0
+RemoveFits = (c : List ℕ) (last : Id) (row : List (Slot Message)) (s : OwnerAt) → Fits row s → Fits (removed_row c row s) (removed_after c last s)
+
+abbrev pub DeleteFits : Type 0
+DeleteFits = (c : List ℕ) (row : List (Slot Message)) (s : OwnerAt) → Fits row s → Fits (delete_row c row s) (delete_after c row s)
+
+abbrev pub SweepFits : Type 0
+SweepFits = (c : List ℕ) (row : List (Slot Message)) (s : OwnerAt) → Fits row s → Fits (sweep_row c row s) (sweep_after c row s)
 
 -- all retired slots are polled
 abbrev pub PolledFits : Type 0

@@ -19,7 +19,9 @@ pub mod AnsweredOnce
 pub mod HoldsKept
 pub mod Aside
 pub mod Kinds
+pub mod OwnChannels
 pub mod Reaping
+pub mod Sweeping
 pub mod Stages
 pub mod Ascends
 pub mod Refused
@@ -28,3 +30,4 @@ pub mod LeavingKept
 pub mod Counted
 pub mod RemovalStands
 pub mod Fencing
+pub mod Removing

@@ -6,6 +6,7 @@ use Rattle.nc_journal.specs.History.{own, onto, Along}
 use Rattle.nc_journal.specs.Holding.{Retired, slot_stage, TakesLowestUnused}
 use Rattle.nc_journal.specs.declared.event.Event.{Event}
 use Rattle.nc_journal.specs.declared.event.Event.TheVariants.{Stored, Freed}
+use Rattle.nc_journal.specs.declared.word.RemovedCause.{RemovedCause}
 use Rattle.nc_slots.specs.declared.slot.Slot.{Slot}
 use Rattle.nc_owner.specs.declared.member.Member.{Member}
 use Rattle.nc_owner.specs.declared.order.Order.{Order}
@@ -16,6 +17,7 @@ use Rattle.nc_owner.specs.Publish.{Polls, PublishPolls, publish_events, publish_
 use Rattle.nc_owner.specs.Look.{look_events, look_alerts}
 use Rattle.nc_owner.specs.OtherSteps.{touch_events_of, join_events, part_events, info_alerts, polled_events}
 use Rattle.nc_owner_laws.specs.OwnerStanding.{Stands}
+use Rattle.nc_owner_laws.specs.Removing.{removed_onto}
 use Rattle.nc_owner_laws.specs.Stages.{AreStaged}
 use Rattle.nc_owner_laws.specs.Weave.{weave}
 
@@ -31,6 +33,7 @@ pub record StepsKeepSlots (slots : ℕ) (next : ℕ → ℕ) (row : List (Slot M
   pub info : (from r : ℕ) (c : List ℕ) → Along (OwnersSlots slots) (onto (weave s.desk.me next (touch_events_of c row s) (info_alerts from r c row s)) h)
   pub sweep : (c : List ℕ) → Along (OwnersSlots slots) (onto (weave s.desk.me next (touch_events_of c row s) []) h)
   pub look : (from number : ℕ) (c : List ℕ) (id : Id) → Along (OwnersSlots slots) (onto (weave s.desk.me next (look_events from number c id row s) (look_alerts from number c id row s)) h)
+  pub remove : (c : List ℕ) (cause : RemovedCause) → Along (OwnersSlots slots) (removed_onto next c cause h s)
   pub polled : (answers : List PollAnswer) → map slot_of answers ≡ s.desk.retired → Along (OwnersSlots slots) (onto (weave s.desk.me next (polled_events answers s) []) h)
 
 abbrev pub OthersKeepSlots : Type 0

@@ -5,6 +5,7 @@ use Rattle.nc_types.specs.Message.{Message}
 use Rattle.nc_journal.specs.History.{onto}
 use Rattle.nc_journal.specs.Holding.{SlotStage, Unused as UnusedStage, Buffered as BufferedStage, Retired as RetiredStage, slot_stage}
 use Rattle.nc_journal.specs.declared.event.Event.{Event}
+use Rattle.nc_journal.specs.declared.word.RemovedCause.{RemovedCause}
 use Rattle.nc_slots.specs.declared.slot.Slot.{Slot}
 use Rattle.nc_slots.specs.declared.slot.Slot.TheVariants.{Unused, Buffered, Retired}
 use Rattle.nc_slots.specs.Slot.{slot_at}
@@ -16,7 +17,9 @@ use Rattle.nc_owner.specs.Poll.{slot_of}
 use Rattle.nc_owner.specs.Publish.{Polls, PublishPolls, publish_events, publish_alerts, publish_row}
 use Rattle.nc_owner.specs.Look.{look_events, look_alerts, look_row}
 use Rattle.nc_owner.specs.OtherSteps.{touch_events_of, touched_row, join_events, part_events, info_alerts, polled_events, polled_row}
+use Rattle.nc_owner.specs.Remove.{removed_row}
 use Rattle.nc_owner_laws.specs.Fits.{Fits}
+use Rattle.nc_owner_laws.specs.Removing.{removed_onto}
 use Rattle.nc_owner_laws.specs.Weave.{weave}
 
 -- the stage of a slot, as the owner knows it
@@ -39,6 +42,7 @@ pub record StepsStaged (next : ℕ → ℕ) (row : List (Slot Message)) (h : Lis
   pub info : (from r : ℕ) (c : List ℕ) → AreStaged (touched_row c row s) (onto (weave s.desk.me next (touch_events_of c row s) (info_alerts from r c row s)) h)
   pub sweep : (c : List ℕ) → AreStaged (touched_row c row s) (onto (weave s.desk.me next (touch_events_of c row s) []) h)
   pub look : (from number : ℕ) (c : List ℕ) (id : Id) → AreStaged (look_row from c id row s) (onto (weave s.desk.me next (look_events from number c id row s) (look_alerts from number c id row s)) h)
+  pub remove : (c : List ℕ) (cause : RemovedCause) → AreStaged (removed_row c row s) (removed_onto next c cause h s)
   pub polled : (answers : List PollAnswer) → map slot_of answers ≡ s.desk.retired → AreStaged (polled_row answers row) (onto (weave s.desk.me next (polled_events answers s) []) h)
 
 abbrev pub OthersStaged : Type 0

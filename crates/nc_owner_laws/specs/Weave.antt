@@ -9,6 +9,11 @@ use Rattle.nc_owner.specs.AlertLines.{OutLine}
 abbrev pub numbered : (ℕ → ℕ) → ℕ → ℕ → ℕ
 numbered next to v = if v == to then next v + 1 else next v
 
+-- and once some alerts were made
+abbrev pub numbered_by : (ℕ → ℕ) → List OutLine → ℕ → ℕ
+numbered_by next [] = next
+numbered_by next (a ∷ alerts) = numbered_by (numbered next a.to) alerts
+
 -- alerts are made one after the other
 abbrev pub makes : ℕ → (ℕ → ℕ) → List OutLine → List Event
 makes w next [] = []

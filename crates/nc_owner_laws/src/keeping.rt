@@ -1,12 +1,12 @@
 //! Each step of an owner keeps that it fits its slots.
-ghost use Rattle.nc_owner_laws.specs.Keeping.{NewFits, TouchFits, JoinFits, PartFits, LookFits, PolledFits, ClockFits, HoldsFallLaw, ToldHoldsFall, PublishFits, PublishFinds};
+ghost use Rattle.nc_owner_laws.specs.Keeping.{NewFits, TouchFits, JoinFits, PartFits, LookFits, RemoveFits, DeleteFits, SweepFits, PolledFits, ClockFits, HoldsFallLaw, ToldHoldsFall, PublishFits, PublishFinds};
 
 /// A new owner fits unused slots.
 pub fn new_fits()
     ensures { NewFits }
 {}
 
-/// A question for information and a sweep keep it.
+/// A question for information keeps it.
 pub fn touch_fits()
     ensures { TouchFits }
 {}
@@ -24,6 +24,21 @@ pub fn part_fits()
 /// A look keeps it.
 pub fn look_fits()
     ensures { LookFits }
+{}
+
+/// A removal of a channel keeps it.
+pub fn remove_fits()
+    ensures { RemoveFits }
+{}
+
+/// A deletion keeps it.
+pub fn delete_fits()
+    ensures { DeleteFits }
+{}
+
+/// A sweep of one channel keeps it.
+pub fn sweep_fits()
+    ensures { SweepFits }
 {}
 
 /// Polls of all retired slots keep it.

@@ -1,0 +1,5 @@
+use Rattle.nc_owner_laws.proofs.Steps as steps
+use Rattle.nc_owner_laws.proofs.keeping.delete_fits.Goals as goal
+
+pub returns : goal.returns
+returns c = steps.delete_fits
