@@ -52,6 +52,7 @@ command_keeps workers text l commands.Poll is =
 command_keeps workers text l commands.Carry is = rw is.2 (both_below workers text is.0 is.1)
 command_keeps workers text l commands.Take is = rw is.2 (both_below workers text is.0 is.1)
 command_keeps workers text l commands.Settle is = rw is.2.2 is.2.1.1
+command_keeps workers text l commands.Drop is = rw is.2.2.2.2 (below workers is.2.0 is.2.2.0 is.0.0 is.2.2.1)
 command_keeps workers text l commands.Info is = rw is.2.2.2.2 (below workers is.2.0 is.2.2.0 is.0.0 is.2.2.1)
 
 written_keeps : (workers : ℕ) (text : List ℕ) (l : Line) (b : Bool) → (chosen b (says Blank) (full_line workers text)).Says l → Keeps workers l

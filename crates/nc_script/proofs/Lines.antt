@@ -1,12 +1,12 @@
 -- A line says one thing, or breaks one rule at one place.
 use Rattle.std.proofs.Common.{◌≡◌, ℕ, ◌+◌, ◌*◌, ◌==◌, if◌then◌else◌, List, [], ◌∷◌, length, get_or, sym, ap, ◌∙◌, refl}
 use Rattle.nc_script.specs.declared.command.Command.{Command}
-use Rattle.nc_script.specs.declared.command.Command.TheVariants.{Clock, Reap, Post, Poll, Carry, Take, Settle, Info}
+use Rattle.nc_script.specs.declared.command.Command.TheVariants.{Clock, Reap, Post, Poll, Carry, Take, Settle, Drop, Info}
 use Rattle.nc_types.specs.Unquote.{OneMeaning, OnePlace}
 use Rattle.nc_script.specs.Word.{Word}
 use Rattle.nc_script.specs.Judge.{IsSure}
 use Rattle.nc_script.specs.Part.{greatest_number}
-use Rattle.nc_script.specs.Line.{command_word, command, short_enough, longest_line, one_word, two_words, four_words, two_words_and_text, Four, Quoting, clock_line, reap_line, post_line, poll_line, two_workers, carry_line, take_line, settle_line, info_line, command_line, full_line, is_blank}
+use Rattle.nc_script.specs.Line.{command_word, command, short_enough, longest_line, one_word, two_words, four_words, two_words_and_text, Four, Quoting, clock_line, reap_line, post_line, poll_line, two_workers, carry_line, take_line, settle_line, drop_line, info_line, command_line, full_line, is_blank}
 use Rattle.nc_script.specs.Script.{LinesAreSure}
 use Rattle.nc_script.proofs.Sure.{says_sure, must_sure, next_sure, chosen_sure}
 use Rattle.nc_script.proofs.Parts.{number_sure, worker_sure, name_sure, body_sure, list_sure, start_sure}
@@ -20,7 +20,8 @@ told_by key =
     (if key == 112108 then Poll else
     (if key == 99114 then Carry else
     (if key == 116107 then Take else
-    (if key == 115116 then Settle else Info))))))
+    (if key == 115116 then Settle else
+    (if key == 100111 then Drop else Info)))))))
 
 abbrev told : List ℕ → Command
 told word = told_by (get_or word 0 0 * 1000 + get_or word 2 0)
@@ -33,6 +34,7 @@ told_is Poll = refl
 told_is Carry = refl
 told_is Take = refl
 told_is Settle = refl
+told_is Drop = refl
 told_is Info = refl
 
 same_command : (c d : Command) → command_word c ≡ command_word d → c ≡ d
@@ -113,6 +115,13 @@ settle_line_sure text =
     next_sure _ _ (one_word_sure text) (λ p.
     next_sure _ _ (number_sure greatest_number p) (λ n. says_sure _))
 
+drop_line_sure : (workers : ℕ) (text : List ℕ) → IsSure (drop_line workers text)
+drop_line_sure workers text =
+    next_sure _ _ (two_words_sure text) (λ p.
+    next_sure _ _ (number_sure greatest_number p.0) (λ n.
+    next_sure _ _ (worker_sure workers p.0 n) (λ w.
+    next_sure _ _ (name_sure p.1) (λ c. says_sure _))))
+
 info_line_sure : (workers : ℕ) (text : List ℕ) → IsSure (info_line workers text)
 info_line_sure workers text =
     next_sure _ _ (two_words_sure text) (λ p.
@@ -146,6 +155,7 @@ module _ (one_meaning : (text : List ℕ) → OneMeaning text) (one_place : (tex
   command_line_sure workers text Carry = carry_line_sure workers text
   command_line_sure workers text Take = take_line_sure workers text
   command_line_sure workers text Settle = settle_line_sure text
+  command_line_sure workers text Drop = drop_line_sure workers text
   command_line_sure workers text Info = info_line_sure workers text
 
   pub lines_sure : LinesAreSure

@@ -2,9 +2,9 @@
 use Rattle.std.specs.Prelude.{◌≡◌, ℕ, ◌+◌, ◌<◌, ◌≤◌, List, [], ◌∷◌, ◌++◌, codes, length, ◌==◌, Bool, true, drop}
 use Rattle.std.specs.List.{before_first}
 use Rattle.nc_script.specs.declared.command.Command.{Command}
-use Rattle.nc_script.specs.declared.command.Command.TheVariants.{Clock as ClockCommand, Reap as ReapCommand, Post as PostCommand, Poll as PollCommand, Carry as CarryCommand, Take as TakeCommand, Settle as SettleCommand, Info as InfoCommand}
+use Rattle.nc_script.specs.declared.command.Command.TheVariants.{Clock as ClockCommand, Reap as ReapCommand, Post as PostCommand, Poll as PollCommand, Carry as CarryCommand, Take as TakeCommand, Settle as SettleCommand, Drop as DropCommand, Info as InfoCommand}
 use Rattle.nc_script.specs.declared.line.Line.{Line}
-use Rattle.nc_script.specs.declared.line.Line.TheVariants.{Blank, Clock, Reap, Post, Poll, Carry, Take, Settle, Inform}
+use Rattle.nc_script.specs.declared.line.Line.TheVariants.{Blank, Clock, Reap, Post, Poll, Carry, Take, Settle, Remove, Inform}
 use Rattle.nc_script.specs.Word.{Word, words_from}
 use Rattle.nc_script.specs.Judge.{Judge, says, must, next, chosen}
 use Rattle.nc_script.specs.Part.{number, greatest_number, worker, body, name, list, start}
@@ -32,6 +32,7 @@ command_word PollCommand = codes "poll"
 command_word CarryCommand = codes "carry"
 command_word TakeCommand = codes "take"
 command_word SettleCommand = codes "settle"
+command_word DropCommand = codes "drop"
 command_word InfoCommand = codes "info"
 
 -- rule 2: the first word is a command
@@ -145,6 +146,15 @@ settle_line text =
     next (number greatest_number p) (λ n.
     says (Settle n)))
 
+-- `drop W NAME`
+abbrev pub drop_line : ℕ → List ℕ → Judge Line
+drop_line workers text =
+    next (two_words text) (λ p.
+    next (number greatest_number p.0) (λ n.
+    next (worker workers p.0 n) (λ w.
+    next (name p.1) (λ c.
+    says (Remove w c)))))
+
 -- `info W NAME`
 abbrev pub info_line : ℕ → List ℕ → Judge Line
 info_line workers text =
@@ -162,6 +172,7 @@ command_line workers text PollCommand = poll_line workers text
 command_line workers text CarryCommand = carry_line workers text
 command_line workers text TakeCommand = take_line workers text
 command_line workers text SettleCommand = settle_line text
+command_line workers text DropCommand = drop_line workers text
 command_line workers text InfoCommand = info_line workers text
 
 -- a line that isn't blank begins with a command

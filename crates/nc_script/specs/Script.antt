@@ -7,7 +7,7 @@ use Rattle.nc_script.specs.Judge.{IsSure}
 use Rattle.nc_script.specs.Part.{greatest_number}
 use Rattle.nc_script.specs.Line.{line, Four, AreWords}
 use Rattle.nc_script.specs.declared.line.Line.{Line}
-use Rattle.nc_script.specs.declared.line.Line.TheVariants.{Blank, Clock, Reap, Post, Poll, Carry, Take, Settle, Inform}
+use Rattle.nc_script.specs.declared.line.Line.TheVariants.{Blank, Clock, Reap, Post, Poll, Carry, Take, Settle, Remove, Inform}
 
 -- a text says one line, or breaks one rule at one place
 abbrev pub LinesAreSure : Type 0
@@ -35,6 +35,7 @@ Keeps workers (Poll w k names start) = (w < workers) × AreChannels names start
 Keeps workers (Carry w to) = (w < workers) × (to < workers)
 Keeps workers (Take w from) = (w < workers) × (from < workers)
 Keeps workers (Settle n) = n ≤ greatest_number
+Keeps workers (Remove w c) = w < workers
 Keeps workers (Inform w c) = w < workers
 
 -- what a text says keeps this

@@ -10,5 +10,6 @@ pub enum Command {
     Carry,
     Take,
     Settle,
+    Drop,
     Info,
 }

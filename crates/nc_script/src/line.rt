@@ -11,7 +11,7 @@ pub enum Line {
         w: u8,
         t: u64,
     },
-    /// The worker goes over its channels, whose expired messages leave.
+    /// The worker goes over its channels: expired messages leave, and a channel that keeps nothing and nobody goes.
     Reap {
         w: u8,
     },
@@ -41,6 +41,11 @@ pub enum Line {
     /// At most `n` carries and takes that do something, in rounds.
     Settle {
         n: u64,
+    },
+    /// A channel is to be deleted.
+    Remove {
+        w: u8,
+        chan: ChanName,
     },
     /// Information on a channel is asked for.
     Inform {

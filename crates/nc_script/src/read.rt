@@ -1,7 +1,7 @@
 //! Lines read, by the rules in their order.
 ghost use Rattle.std.specs.Prelude.{◌≡◌, ◌≤◌, ℕ, List, length};
 ghost use Rattle.nc_script.specs.Judge.{Judged};
-ghost use Rattle.nc_script.specs.Line.{clock_line, reap_line, post_line, poll_line, two_workers, carry_line, take_line, settle_line, info_line, command_line, full_line, written_line, line};
+ghost use Rattle.nc_script.specs.Line.{clock_line, reap_line, post_line, poll_line, two_workers, carry_line, take_line, settle_line, drop_line, info_line, command_line, full_line, written_line, line};
 
 use crate::command::Command;
 use crate::fault::LineFault;
@@ -103,6 +103,18 @@ fn settle_line(text: &[u8]) -> Result<Line, LineFault>
     Ok(Line::Settle { n })
 }
 
+/// `drop W NAME`
+fn drop_line(alloc: Global, text: &[u8], workers: u8) -> Result<Line, LineFault>
+    ensures { Judged (drop_line workers text.now) result }
+{
+    let (first, second) = two_words(text)?;
+    let n = number(&first, GREATEST_NUMBER)?;
+    let w = worker(&first, n, workers)?;
+    let bytes = name(alloc, &second)?;
+    let chan = ChanName { bytes };
+    Ok(Line::Remove { w, chan })
+}
+
 /// `info W NAME`
 fn info_line(alloc: Global, text: &[u8], workers: u8) -> Result<Line, LineFault>
     ensures { Judged (info_line workers text.now) result }
@@ -127,6 +139,7 @@ fn full_line(alloc: Global, text: &[u8], workers: u8) -> Result<Line, LineFault>
         Command::Carry => carry_line(text, workers),
         Command::Take => take_line(text, workers),
         Command::Settle => settle_line(text),
+        Command::Drop => drop_line(alloc, text, workers),
         Command::Info => info_line(alloc, text, workers),
     }
 }

@@ -33,6 +33,7 @@ pub(crate) fn command(text: &[u8]) -> Result<Command, LineFault>
         b"carry" => Ok(Command::Carry),
         b"take" => Ok(Command::Take),
         b"settle" => Ok(Command::Settle),
+        b"drop" => Ok(Command::Drop),
         b"info" => Ok(Command::Info),
         _ => Err(LineFault::Rule { rule: 2, at: 0 }),
     }

@@ -74,8 +74,9 @@ fn put_settle(out: &mut Vec<u8>, n: u64) -> Result<(), NoMemory> {
     put_number(out, n)
 }
 
-fn put_inform(out: &mut Vec<u8>, w: u8, chan: &ChanName) -> Result<(), NoMemory> {
-    put_part(out, b"info")?;
+/// A deletion, or a question for information.
+fn put_asked(out: &mut Vec<u8>, kind: &[u8], w: u8, chan: &ChanName) -> Result<(), NoMemory> {
+    put_part(out, kind)?;
     put_number(out, u64::from(w))?;
     put_bytes(out, chan.bytes.as_slice())
 }
@@ -90,7 +91,8 @@ fn put_line(out: &mut Vec<u8>, line: &Line) -> Result<(), NoMemory> {
         Line::Carry { w, to } => put_move(out, b"carry", *w, *to),
         Line::Take { w, from } => put_move(out, b"take", *w, *from),
         Line::Settle { n } => put_settle(out, *n),
-        Line::Inform { w, chan } => put_inform(out, *w, chan),
+        Line::Remove { w, chan } => put_asked(out, b"drop", *w, chan),
+        Line::Inform { w, chan } => put_asked(out, b"info", *w, chan),
     }
 }
 
@@ -123,6 +125,7 @@ fn put_kind(out: &mut Vec<u8>, line: &Line) -> Result<(), NoMemory> {
         Line::Carry { .. } => put_part(out, b"carry"),
         Line::Take { .. } => put_part(out, b"take"),
         Line::Settle { .. } => put_part(out, b"settle"),
+        Line::Remove { .. } => put_part(out, b"drop"),
         Line::Inform { .. } => put_part(out, b"info"),
     }
 }
