@@ -82,7 +82,7 @@ module _ (k : ℕ) where
   no-readers (r ∷ readers) e = absurd (grind (arith, nat_tests))
 
   -- a subscriber that is there is counted once
-  abbrev counted : ℕ → Option (List (List ℕ)) → ℕ
+  abbrev pub counted : ℕ → Option (List (List ℕ)) → ℕ
   counted j None = 0
   counted j (Some names) = one (j == k)
 
@@ -310,7 +310,8 @@ module _ (k : ℕ) where
       by true was = omega (arith, no-readers k s.readers was)
       by false was = shelved-tally s b
 
-  left-tally : (j : ℕ) (b : Board) → stands k b ≤ 1 → tally k (left j b) + counted k j (names_with j b) ≡ tally k b
+  -- one that stands once leaves once
+  pub left-tally : (j : ℕ) (b : Board) → stands k b ≤ 1 → tally k (left j b) + counted k j (names_with j b) ≡ tally k b
   left-tally j b few = by (find (has_reader j) b.shelf) refl
     where
       start-one : (st : StartingAt) → starts_with j st ≡ true → start_at k st ≡ one (j == k)
@@ -329,7 +330,7 @@ module _ (k : ℕ) where
           let parts = total-without (readers_of k) (has_reader j) b.shelf s was in
           omega (arith, back-tally (without_reader j s) (out (has_reader j) b), out-tally (has_reader j) s b was, leaves-one k j s (found-passes (has_reader j) b.shelf s was) (omega (arith, parts, few)))
 
-  left-ends : (j : ℕ) (b : Board) → ends k (left j b).facts ≡ ends k b.facts
+  pub left-ends : (j : ℕ) (b : Board) → ends k (left j b).facts ≡ ends k b.facts
   left-ends j b = by (find (has_reader j) b.shelf)
     where
       by : (o : Option SpoolAt) → ends k (left_by o j (out (has_reader j) b)).facts ≡ ends k b.facts

@@ -7,3 +7,4 @@ pub mod Quiet
 pub mod Leaving
 pub mod Staging
 pub mod Started
+pub mod Joining

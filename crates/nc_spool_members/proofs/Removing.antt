@@ -67,7 +67,7 @@ module _ (k : ℕ) where
       let first = told (Ended j deleted) b in
       omega (arith, ap (λ (l : List SpoolAt). total (readers_of k) l) (parted-shelf j names first), ap (λ (l : List StartingAt). total (start_at k) l) (parted-starts j names first))
 
-  member_gone-fewer : (c : List ℕ) (j : ℕ) (b : Board) → stands k (member_gone c b j) ≤ stands k b
+  pub member_gone-fewer : (c : List ℕ) (j : ℕ) (b : Board) → stands k (member_gone c b j) ≤ stands k b
   member_gone-fewer c j b = by (names_with j b)
     where
       by : (o : Option (List (List ℕ))) → stands k (member_gone_by o c j (left j b)) ≤ stands k b
@@ -116,7 +116,7 @@ module _ (chan : List ℕ) (k : ℕ) (g : Ask → ℕ) (weighs : Weighs chan k g
 -- ---- the removed channel itself
 
 module _ (g : Ask → ℕ) where
-  left-facts : (j : ℕ) (b : Board) → total (fact_weight g) (left j b).facts ≡ total (fact_weight g) b.facts
+  pub left-facts : (j : ℕ) (b : Board) → total (fact_weight g) (left j b).facts ≡ total (fact_weight g) b.facts
   left-facts j b = by (find (has_reader j) b.shelf)
     where
       by : (o : Option SpoolAt) → total (fact_weight g) (left_by o j (out (has_reader j) b)).facts ≡ total (fact_weight g) b.facts
@@ -248,7 +248,7 @@ module _ (k : ℕ) where
   stay-none c [] b none = none
   stay-none c (j ∷ members) b none = stay-none c members (member_gone c b j) (omega (arith, member_gone-fewer k c j b, none))
 
-  named-leave : (c members : List ℕ) (b : Board) → stands k b ≤ 1 → is_named k members ≡ true → stands k (fold (member_gone c) b members) ≡ 0
+  pub named-leave : (c members : List ℕ) (b : Board) → stands k b ≤ 1 → is_named k members ≡ true → stands k (fold (member_gone c) b members) ≡ 0
   named-leave c [] b few e = absurd cc
   named-leave c (j ∷ members) b few e = by (j == k) refl e (λ f. named-leave c members (member_gone c b j) (omega (arith, member_gone-fewer k c j b, few)) f)
     where

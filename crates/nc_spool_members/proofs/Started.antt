@@ -1,6 +1,7 @@
 -- Each call leaves the starts, but for one that begins behind the newest message.
-use Rattle.std.proofs.Common.{◌≡◌, ℕ, Bool, true, false, cond, List, [], ◌∷◌, Option, Some, None, find, length, refl, ap, ◌∙◌}
+use Rattle.std.proofs.Common.{◌≡◌, ℕ, Bool, true, false, cond, List, [], ◌∷◌, Option, Some, None, find, length, refl, sym, ap, ◌∙◌, subst, inl, inr}
 use Rattle.std.specs.Prelude.{fold}
+use Rattle.std.specs.List.{AllByRecursion}
 use Rattle.std.specs.Option.{option_map}
 use Rattle.nc_types.specs.Id.{is_past}
 use Rattle.nc_types.specs.declared.start.Start.{Start}
@@ -16,23 +17,24 @@ use Rattle.nc_spool_state.specs.declared.edge.Edge.{Edge}
 use Rattle.nc_spool_state.specs.declared.edge.Edge.TheVariants.{Known}
 use Rattle.nc_spool_state.specs.Key.{KeyAt, id_at, place_of}
 use Rattle.nc_spool_state.specs.Place.{place_awaiting}
-use Rattle.nc_spool_state.specs.Spool.{SpoolAt, is_of, awaits, with_reader, place_at, with_place}
+use Rattle.nc_spool_state.specs.Spool.{SpoolAt, is_of, awaits, has_reader, with_reader, place_at, with_place}
 use Rattle.nc_spool_state.specs.Shelf.{spool_of, without_first, keys_with}
 use Rattle.nc_spool_state.specs.Choice.{choice}
-use Rattle.nc_spool_state.specs.Hear.{learned, notice_says}
-use Rattle.nc_spool_state.specs.Starting.{StartingAt, start_awaits}
+use Rattle.nc_spool_state.specs.Hear.{learned, notice_says, gone_says}
+use Rattle.nc_spool_state.specs.Starting.{StartingAt, start_awaits, starts_with}
 use Rattle.nc_spool.specs.declared.fact.Fact.TheVariants as facts
 use Rattle.nc_spool.specs.declared.board.Board.{Board}
 use Rattle.nc_spool.specs.declared.decide.Delivery.{Delivery}
 use Rattle.nc_spool.specs.Board.{told, shelved, standing, opened, entered, ended}
 use Rattle.nc_spool.specs.Decide.{delivery, sending, sent_one, decided, decided_by}
-use Rattle.nc_spool.specs.Hear.{heeded, noticed_at, noticed_by, noticed_in, noticed_place, answered, answered_by, answered_in, answered_at}
+use Rattle.nc_spool.specs.Hear.{heeded, noticed_at, noticed_by, noticed_in, noticed_place, answered, answered_by, answered_in, answered_at, emptied_at, emptied_by, emptied_in, emptied_place}
+use Rattle.nc_spool.specs.Depart.{other_names, names_with, left, left_by, member_gone, member_gone_by, gone}
 use Rattle.nc_spool.specs.Arrive.{oldest_cursor, joined, arrived}
 use Rattle.nc_spool.specs.Newest.{begun, edge_answered, edge_answered_by}
 use Rattle.nc_spool.specs.Calls.{board_of, news_of}
 use Rattle.nc_spool_laws.specs.Closed.{out, out_start}
 use Rattle.nc_spool_laws.proofs.Same.{asked-starts, parted-starts, joined-starts, fences-starts}
-use Rattle.nc_spool_members.specs.Starts.{IsKnownStart, KeepStarts}
+use Rattle.nc_spool_members.specs.Starts.{IsKnownStart, IsAmong, KeepStarts}
 
 entered-starts : (key : KeyAt) (r : Reader) (b : Board) → (entered key r b).starts ≡ b.starts
 entered-starts key r b = by (spool_of key b.shelf)
@@ -111,10 +113,86 @@ edged-starts : (number : ℕ) (edge : Edge) (b : Board) → b.starts ≡ [] → 
 edged-starts number edge b none =
     ap (λ (o : Option StartingAt). (edge_answered_by o number edge (out_start (start_awaits number) b)).starts) (ap (λ (l : List StartingAt). find (start_awaits number) l) none) ∙ ap (λ (l : List StartingAt). without_first (start_awaits number) l) none
 
+-- ---- a removal
+
+-- all of some are among others
+abbrev AreAmong : (xs ys : List StartingAt) → Type 0
+AreAmong xs ys = AllByRecursion (λ x. IsAmong x ys) xs
+
+more-among : (y : StartingAt) (xs ys : List StartingAt) → AreAmong xs ys → AreAmong xs (y ∷ ys)
+more-among y [] ys a = tt
+more-among y (x ∷ xs) ys a = (inr a.0, more-among y xs ys a.1)
+
+same-among : (xs : List StartingAt) → AreAmong xs xs
+same-among [] = tt
+same-among (x ∷ xs) = (inl refl, more-among x xs xs (same-among xs))
+
+one-among : (x : StartingAt) (xs ys : List StartingAt) → IsAmong x xs → AreAmong xs ys → IsAmong x ys
+one-among x [] ys p a = absurd p
+one-among x (z ∷ xs) ys (inl e) a = subst (λ (s : StartingAt). IsAmong s ys) (sym e) a.0
+one-among x (z ∷ xs) ys (inr p) a = one-among x xs ys p a.1
+
+all-among : (xs ys zs : List StartingAt) → AreAmong xs ys → AreAmong ys zs → AreAmong xs zs
+all-among [] ys zs a b = tt
+all-among (x ∷ xs) ys zs a b = (one-among x ys zs a.0 b, all-among xs ys zs a.1 b)
+
+without-among : (test : StartingAt → Bool) (xs : List StartingAt) → AreAmong (without_first test xs) xs
+without-among test [] = tt
+without-among test (x ∷ xs) = by (test x) (without-among test xs)
+  where
+    by : (t : Bool) → AreAmong (without_first test xs) xs → AreAmong (cond t xs (x ∷ without_first test xs)) (x ∷ xs)
+    by true rest = more-among x xs xs (same-among xs)
+    by false rest = (inl refl, more-among x (without_first test xs) xs rest)
+
+left-among : (k : ℕ) (b : Board) → AreAmong (left k b).starts b.starts
+left-among k b = by (find (has_reader k) b.shelf)
+  where
+    by : (o : Option SpoolAt) → AreAmong (left_by o k (out (has_reader k) b)).starts b.starts
+    by None = without-among (starts_with k) b.starts
+    by (Some s) = same-among b.starts
+
+ended-starts : (k : ℕ) (deleted : Bool) (names : List (List ℕ)) (b : Board) → (ended k deleted names b).starts ≡ b.starts
+ended-starts k deleted names b = parted-starts k names (told (facts.Ended k deleted) b)
+
+member-among : (c : List ℕ) (k : ℕ) (b : Board) → AreAmong (member_gone c b k).starts b.starts
+member-among c k b = by (names_with k b)
+  where
+    by : (o : Option (List (List ℕ))) → AreAmong (member_gone_by o c k (left k b)).starts b.starts
+    by None = left-among k b
+    by (Some names) = subst (λ (l : List StartingAt). AreAmong l b.starts) (sym (ended-starts k true (other_names c names) (left k b))) (left-among k b)
+
+members-among : (c members : List ℕ) (b : Board) → AreAmong (fold (member_gone c) b members).starts b.starts
+members-among c [] b = same-among b.starts
+members-among c (k ∷ members) b = all-among (fold (member_gone c) (member_gone c b k) members).starts (member_gone c b k).starts b.starts (members-among c members (member_gone c b k)) (member-among c k b)
+
+emptied_in-starts : (c : List ℕ) (s : SpoolAt) (b : Board) → (emptied_in c s b).starts ≡ b.starts
+emptied_in-starts c s b = by (place_of c s.key.list)
+  where
+    by : (o : Option ℕ) → (emptied_place o s b).starts ≡ b.starts
+    by None = refl
+    by (Some j) = heeded-starts (gone_says (place_at s j)) j s b
+
+emptied_at-starts : (c : List ℕ) (b : Board) (key : KeyAt) → (emptied_at c b key).starts ≡ b.starts
+emptied_at-starts c b key = by (spool_of key b.shelf)
+  where
+    by : (o : Option SpoolAt) → (emptied_by o c (out (is_of key) b)).starts ≡ b.starts
+    by None = refl
+    by (Some s) = emptied_in-starts c s (out (is_of key) b)
+
+emptied_keys-starts : (c : List ℕ) (keys : List KeyAt) (b : Board) → (fold (emptied_at c) b keys).starts ≡ b.starts
+emptied_keys-starts c [] b = refl
+emptied_keys-starts c (key ∷ keys) b = emptied_keys-starts c keys (emptied_at c b key) ∙ emptied_at-starts c b key
+
+gone-among : (c members : List ℕ) (b : Board) → AreAmong (gone c members b).starts b.starts
+gone-among c members b =
+    let all = fold (member_gone c) b members in
+    subst (λ (l : List StartingAt). AreAmong l b.starts) (sym (emptied_keys-starts c (keys_with c all.shelf) all)) (members-among c members b)
+
 pub keep-starts : (H : Type 0) → KeepStarts H
 keep-starts H s = record {
   arrive = λ k list start once known. arrived-starts (record { k = k; once = once }) list start (board_of s) known;
   answer = λ number q floor found. answered-starts number (record { q = q; floor = floor }) (option_map news_of found) (board_of s);
   edge_answer = λ number floor last none. edged-starts number (Known last floor) (board_of s) none;
   notice = λ d found. noticed_keys-starts d (news_of found) (keys_with d s.shelf) (board_of s);
+  removal = λ d members. gone-among d members (board_of s);
 }

@@ -108,7 +108,7 @@ not-named c (name ∷ names) a = by (name_eq name c) refl (not-named c names a.1
     by true was rest = absurd (a.0 (same_text name c (sym was)))
     by false was rest = omega (arith, rest)
 
-named-once : (c : List ℕ) (names : List (List ℕ)) → AreDistinct names → named c names ≤ 1
+pub named-once : (c : List ℕ) (names : List (List ℕ)) → AreDistinct names → named c names ≤ 1
 named-once c [] a = omega arith
 named-once c (name ∷ names) a = by (name_eq name c) refl (named-once c names a.1)
   where
@@ -143,37 +143,37 @@ module _ (c : List ℕ) (k : ℕ) where
 
 module _ (c : List ℕ) (k : ℕ) where
   -- how often facts tell that the subscriber parts, joins, or either
-  abbrev part_weight : Ask → ℕ
+  abbrev pub part_weight : Ask → ℕ
   part_weight (Look number d after fence) = 0
   part_weight (asks.Edge number n d fence) = 0
   part_weight (Join d n) = 0
   part_weight (Part d n) = one (name_eq d c && (n == k))
 
-  abbrev join_weight : Ask → ℕ
+  abbrev pub join_weight : Ask → ℕ
   join_weight (Look number d after fence) = 0
   join_weight (asks.Edge number n d fence) = 0
   join_weight (Join d n) = one (name_eq d c && (n == k))
   join_weight (Part d n) = 0
 
-  abbrev either_weight : Ask → ℕ
+  abbrev pub either_weight : Ask → ℕ
   either_weight (Look number d after fence) = 0
   either_weight (asks.Edge number n d fence) = 0
   either_weight (Join d n) = one (name_eq d c && (n == k))
   either_weight (Part d n) = one (name_eq d c && (n == k))
 
-  weighs-parts : Weighs c k part_weight
+  pub weighs-parts : Weighs c k part_weight
   weighs-parts = record { look = λ number d after fence. refl; edge = λ number n d fence. refl; part = λ d n. refl }
 
-  weighs-either : Weighs c k either_weight
+  pub weighs-either : Weighs c k either_weight
   weighs-either = record { look = λ number d after fence. refl; edge = λ number n d fence. refl; part = λ d n. refl }
 
-  abbrev parts : List Fact → ℕ
+  abbrev pub parts : List Fact → ℕ
   parts facts = total (fact_weight part_weight) facts
 
-  abbrev joins : List Fact → ℕ
+  abbrev pub joins : List Fact → ℕ
   joins facts = total (fact_weight join_weight) facts
 
-  abbrev both : List Fact → ℕ
+  abbrev pub both : List Fact → ℕ
   both facts = total (fact_weight either_weight) facts
 
   one-sum : (fact : Fact) → fact_weight either_weight fact ≡ fact_weight join_weight fact + fact_weight part_weight fact
@@ -188,7 +188,7 @@ module _ (c : List ℕ) (k : ℕ) where
   one-sum (Sent s) = refl
   one-sum (Ended n deleted) = refl
 
-  sum-all : (facts : List Fact) → both facts ≡ joins facts + parts facts
+  pub sum-all : (facts : List Fact) → both facts ≡ joins facts + parts facts
   sum-all [] = refl
   sum-all (fact ∷ facts) = omega (arith, one-sum fact, sum-all facts)
 
@@ -263,7 +263,7 @@ module _ (c : List ℕ) (k : ℕ) where
       ap (λ is. member_told c k is new.facts) (sym (stands-some c k b)) ∙ parted-members new.facts (some (weighed c k b)) none
       ∙ falls (weighed c k new) (parts new.facts) (weighed c k b) (omega (arith, less, no_parts)) few ∙ stands-some c k new
 
-  join-both : (n : ℕ) (names : List (List ℕ)) (b : Board) → both (fold (joined n) b names).facts ≡ cond (n == k) (named c names) 0 + both b.facts
+  pub join-both : (n : ℕ) (names : List (List ℕ)) (b : Board) → both (fold (joined n) b names).facts ≡ cond (n == k) (named c names) 0 + both b.facts
   join-both n [] b = none (n == k)
     where
       none : (t : Bool) → both b.facts ≡ cond t 0 0 + both b.facts
@@ -277,7 +277,7 @@ module _ (c : List ℕ) (k : ℕ) where
       more false true m = omega arith
       more false false m = omega arith
 
-  join-parts : (n : ℕ) (names : List (List ℕ)) (b : Board) → parts (fold (joined n) b names).facts ≡ parts b.facts
+  pub join-parts : (n : ℕ) (names : List (List ℕ)) (b : Board) → parts (fold (joined n) b names).facts ≡ parts b.facts
   join-parts n [] b = refl
   join-parts n (d ∷ names) b = omega (arith, join-parts n names (joined n b d), total-push (fact_weight part_weight) b.facts (Out (record { to = owner_of b.workers d; ask = Join d n })))
 

@@ -1,8 +1,8 @@
 -- Who stands with a channel, and what the calls of spools tell its owner.
-use Rattle.std.specs.Prelude.{◌≡◌, ℕ, Bool, true, false, not, List, Option, if◌then◌else◌, fold, ◌==◌, ◌&&◌, ◌||◌}
+use Rattle.std.specs.Prelude.{◌≡◌, ℕ, ◌+◌, ◌≤◌, Bool, true, false, not, List, [], ◌∷◌, Option, if◌then◌else◌, fold, ◌==◌, ◌&&◌, ◌||◌}
 use Rattle.std.specs.List.{list_any}
 use Rattle.nc_types.specs.Id.{Id}
-use Rattle.nc_types.specs.Channel.{name_eq}
+use Rattle.nc_types.specs.Channel.{AreDistinct, name_eq}
 use Rattle.nc_types.specs.declared.start.Start.{Start}
 use Rattle.nc_spool_state.specs.Key.{is_in}
 use Rattle.nc_spool_state.specs.Spool.{SpoolAt, has_channel, has_reader}
@@ -73,3 +73,29 @@ module _ {H : Type 0} (c : List ℕ) (k : ℕ) where
 -- each call tells it, where nobody stands twice and no list names a channel twice
 abbrev pub TellMembers : Type 0 → Type 0
 TellMembers H = (c : List ℕ) (k : ℕ) (s : SpoolsAt H) → StandSingly s → CallsTell c k s
+
+-- ---- who joins
+
+-- how often some facts let a subscriber join a channel
+abbrev pub joins_by : List ℕ → ℕ → Ask → ℕ
+joins_by c k (Look number d after fence) = 0
+joins_by c k (Edge number n d fence) = 0
+joins_by c k (Join d n) = if name_eq d c && (n == k) then 1 else 0
+joins_by c k (Part d n) = 0
+
+abbrev pub joins_told : List ℕ → ℕ → List Fact → ℕ
+joins_told c k [] = 0
+joins_told c k (Out asking ∷ facts) = joins_by c k asking.ask + joins_told c k facts
+joins_told c k (f ∷ facts) = joins_told c k facts
+
+-- nobody joins but who comes, and that one joins each channel of its list once
+pub record CallsJoin {H : Type 0} (c : List ℕ) (k : ℕ) (s : SpoolsAt H) : Type 0 where
+  pub arrive : (n : ℕ) (list : List (List ℕ)) (start : Start) (once : Bool) → AreDistinct list → joins_told c k (arrive_facts n list start once s) ≤ (if n == k then 1 else 0)
+  pub answer : (number q floor : ℕ) (found : Option (Found H)) → joins_told c k (answer_facts number q floor found s) ≡ 0
+  pub edge_answer : (number floor : ℕ) (last : Id) → joins_told c k (edge_facts number floor last s) ≡ 0
+  pub notice : (d : List ℕ) (found : Found H) → joins_told c k (notice_facts d found s) ≡ 0
+  pub removal : (d members : List ℕ) → joins_told c k (gone_facts d members s) ≡ 0
+  pub depart : (n : ℕ) → joins_told c k (depart_facts n s) ≡ 0
+
+abbrev pub ComersJoin : Type 0 → Type 0
+ComersJoin H = (c : List ℕ) (k : ℕ) (s : SpoolsAt H) → CallsJoin c k s

@@ -12,7 +12,7 @@ use Rattle.nc_journal.specs.declared.alert.AlertLine.TheVariants as lines
 use Rattle.nc_spool.specs.Calls.{SpoolsAt, new_spools}
 use Rattle.nc_history.specs.Packets.{kind_of}
 use Rattle.nc_worker_state.specs.Setup.{Setup}
-use Rattle.nc_worker_state.specs.Incoming.{Incoming, TakesPacket, ClockReads, Reaps, Posts, Subscribes, Informs}
+use Rattle.nc_worker_state.specs.Incoming.{Incoming, TakesPacket, ClockReads, Reaps, Posts, Subscribes, Removes, Informs}
 use Rattle.nc_worker_state.specs.Deed.{Deed, Does, Makes}
 use Rattle.nc_worker_state.specs.Spooled.{Spooled, Hold, found_by, found_in, arrives, answers, edges, notices, loses, releases, without_idles}
 
@@ -73,6 +73,7 @@ opening setup me (ClockReads t) d = Clock me t ∷ []
 opening setup me Reaps d = []
 opening setup me (Posts c body) d = Asked me d.requests None acts.Publish (Some (c ∷ [])) 0 0 ∷ []
 opening setup me (Subscribes k list start) d = Subscribed me k None list Direct start setup.sub_timeout false ∷ []
+opening setup me (Removes c) d = Asked me d.requests None acts.Delete (Some (c ∷ [])) 0 0 ∷ []
 opening setup me (Informs c) d = Asked me d.requests None acts.Info (Some (c ∷ [])) 0 0 ∷ []
 
 -- a request more waits, for which an owner is asked
@@ -86,6 +87,7 @@ begun setup me (ClockReads t) d = unserved d
 begun setup me Reaps d = unserved d
 begun setup me (Posts c body) d = asked (owner_of setup.workers c) (lines.Publish d.requests c setup.length setup.timeout None body) d
 begun setup me (Subscribes k list start) d = with_spooled (arrives me k list start true d.spools) d
+begun setup me (Removes c) d = asked (owner_of setup.workers c) (lines.Delete d.requests c) d
 begun setup me (Informs c) d = asked (owner_of setup.workers c) (lines.Info d.requests c) d
 
 abbrev pub served : Setup → ℕ → Incoming → Desk → Served

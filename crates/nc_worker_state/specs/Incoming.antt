@@ -7,13 +7,14 @@ use Rattle.nc_history.specs.Packets.{Packet, packet}
 use Rattle.nc_worker_state.specs.declared.input.Input.{Input}
 use Rattle.nc_worker_state.specs.declared.input.Input.TheVariants as inputs
 
--- a packet of a worker; what its clock reads; a reap; a direct post, subscriber or question for information
+-- a packet of a worker; what its clock reads; a reap; a direct post, subscriber, deletion or question for information
 pub data Incoming : Type 0 where
   TakesPacket : ℕ → Packet → Incoming
   ClockReads : ℕ → Incoming
   Reaps : Incoming
   Posts : List ℕ → List ℕ → Incoming
   Subscribes : ℕ → List (List ℕ) → Start → Incoming
+  Removes : List ℕ → Incoming
   Informs : List ℕ → Incoming
 
 module _ {H : Type 0} where
@@ -27,4 +28,5 @@ module _ {H : Type 0} where
   incoming_of inputs.Reap = Reaps
   incoming_of (inputs.Post c body) = Posts c body
   incoming_of (inputs.Poll k list start) = Subscribes k list start
+  incoming_of (inputs.Remove c) = Removes c
   incoming_of (inputs.Inform c) = Informs c

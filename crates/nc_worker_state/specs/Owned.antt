@@ -1,4 +1,4 @@
--- The owner's part of a worker's step: what it does with an alert that asks it something.
+-- The owner's part of a worker's step: what it does with an alert that asks it something, and what it does by itself.
 use Rattle.std.specs.Prelude.{ℕ, Bool, List, [], ◌++◌, Option}
 use Rattle.nc_types.specs.Id.{Id}
 use Rattle.nc_types.specs.Message.{Message}
@@ -16,9 +16,10 @@ use Rattle.nc_owner.specs.Publish.{Polls, PublishPolls, publish_events, publish_
 use Rattle.nc_owner.specs.Look.{look_events, look_alerts, look_after, look_row, look_holds}
 use Rattle.nc_owner.specs.Fence.{with_floor, raise_events}
 use Rattle.nc_owner.specs.Edge.{edge_events, edge_alerts, edge_after}
+use Rattle.nc_owner.specs.Remove.{delete_events, delete_alerts, delete_after, delete_row}
 use Rattle.nc_owner.specs.OtherSteps.{touched_row, touch_events_of, touch_after, join_events, join_after, part_events, part_after, info_alerts, polled_after, polled_row, with_clock}
 use Rattle.nc_owner_laws.specs.HoldsKept.{told_polls, told_answers}
-use Rattle.nc_reaper.specs.Reap.{swept_all}
+use Rattle.nc_reaper.specs.Reap.{Step, swept_all}
 use Rattle.nc_worker_state.specs.Incoming.{Incoming, TakesPacket, ClockReads, Reaps}
 
 -- an owner with its slots and the number of holds of each
@@ -27,7 +28,7 @@ pub record Holding : Type 0 where
   pub row : List (Slot Message)
   pub counts : List ℕ
 
--- what an owner does: its events, its alerts, and what is left
+-- what an owner does at once: its events, its alerts, and what is left
 pub record Owned : Type 0 where
   pub events : List Event
   pub alerts : List OutLine
@@ -67,6 +68,14 @@ parted_by m c s = touched_by c (part_events m c s.row s.owner) [] (part_after m 
 abbrev pub informed_by : ℕ → ℕ → List ℕ → Holding → Owned
 informed_by from r c s = touched_by c (touch_events_of c s.row s.owner) (info_alerts from r c s.row s.owner) (touch_after c s.row s.owner) s
 
+-- a deletion grants no hold and gives none back
+abbrev pub deleted_by : ℕ → ℕ → List ℕ → Holding → Owned
+deleted_by from r c s = record {
+  events = delete_events c s.row s.owner;
+  alerts = delete_alerts from r c s.row s.owner;
+  after = record { owner = delete_after c s.row s.owner; row = delete_row c s.row s.owner; counts = s.counts };
+}
+
 abbrev pub edged_by : ℕ → ℕ → ℕ → List ℕ → Holding → Owned
 edged_by from number k c s = touched_by c (edge_events from number k c s.row s.owner) (edge_alerts from number c s.row s.owner) (edge_after c s.row s.owner) s
 
@@ -81,24 +90,37 @@ behind_fence fence s o = record o { events = raise_events fence s.owner ++ o.eve
 abbrev pub unowned : Holding → Owned
 unowned s = record { events = []; alerts = []; after = s }
 
--- what an owner does with an alert of a worker, by the answers of the polls of a publish. A deletion is none of its steps yet
+-- what an owner does with an alert of a worker, by the answers of the polls of a publish
 abbrev pub owned_by : Polls → ℕ → AlertLine → Holding → Owned
 owned_by polls from (lines.Publish r c len timeout ct body) s = published_by from (order_of r c len timeout ct body) polls s
 owned_by polls from (lines.Look number c after fence) s = behind_fence fence s (looked_by from number c after (fenced fence s))
 owned_by polls from (lines.Edge number k c fence) s = behind_fence fence s (edged_by from number k c (fenced fence s))
 owned_by polls from (lines.Join c k) s = joined_by (member_of from k) c s
 owned_by polls from (lines.Part c k) s = parted_by (member_of from k) c s
+owned_by polls from (lines.Delete r c) s = deleted_by from r c s
 owned_by polls from (lines.Info r c) s = informed_by from r c s
 owned_by polls from line s = unowned s
 
--- a reap: every channel is touched in ascending order of name, then all retired slots are polled
-abbrev pub reaped_by : List PollAnswer → Holding → Owned
+-- what an owner does in a step of its worker: the sweeps of a reap, one after the other, and what it does last
+pub record OwnersPart : Type 0 where
+  pub sweeps : List Step
+  pub last : Owned
+
+-- only that
+abbrev pub at_once : Owned → OwnersPart
+at_once o = record { sweeps = []; last = o }
+
+-- a reap: every channel is swept in ascending order of name, and who is told that it is gone is told behind its sweep; then all retired slots are polled
+abbrev pub reaped_by : List PollAnswer → Holding → OwnersPart
 reaped_by polls s =
     let swept = swept_all s.row s.owner in
     record {
-      events = swept.events ++ freed_events s.owner.desk.me polls;
-      alerts = [];
-      after = record { owner = polled_after polls swept.owner; row = polled_row polls swept.row; counts = s.counts };
+      sweeps = swept.steps;
+      last = record {
+        events = freed_events s.owner.desk.me polls;
+        alerts = [];
+        after = record { owner = polled_after polls swept.owner; row = polled_row polls swept.row; counts = s.counts };
+      };
     }
 
 -- the clock is set
@@ -113,11 +135,11 @@ pub record StepPolls : Type 0 where
   pub reap : List PollAnswer
 
 -- the owner's part of a step
-abbrev pub owned_in : StepPolls → Incoming → Holding → Owned
-owned_in polls (TakesPacket from p) s = owned_by polls.publish from p.line s
-owned_in polls (ClockReads t) s = clocked_by t s
+abbrev pub owned_in : StepPolls → Incoming → Holding → OwnersPart
+owned_in polls (TakesPacket from p) s = at_once (owned_by polls.publish from p.line s)
+owned_in polls (ClockReads t) s = at_once (clocked_by t s)
 owned_in polls Reaps s = reaped_by polls.reap s
-owned_in polls incoming s = unowned s
+owned_in polls incoming s = at_once (unowned s)
 
 -- the answers fit the slots, and agree with the numbers of holds where these are told
 pub record ReapPolls (exact : Bool) (s : Holding) (polls : List PollAnswer) : Type 0 where
@@ -146,5 +168,5 @@ step_polls (TakesPacket from p) s = record { publish = line_polls p.line s; reap
 step_polls Reaps s = record { publish = no_polls; reap = told_answers s.counts (swept_all s.row s.owner).owner.desk.retired }
 step_polls incoming s = record { publish = no_polls; reap = [] }
 
-abbrev pub owned : Incoming → Holding → Owned
+abbrev pub owned : Incoming → Holding → OwnersPart
 owned incoming s = owned_in (step_polls incoming s) incoming s

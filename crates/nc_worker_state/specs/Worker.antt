@@ -7,12 +7,13 @@ use Rattle.nc_journal.specs.declared.event.Event.TheVariants.{Made, Released}
 use Rattle.nc_slots.specs.declared.slot.Slot.{Slot}
 use Rattle.nc_owner.specs.State.{OwnerAt, new_owner}
 use Rattle.nc_owner_laws.specs.HoldsKept.{one_less}
+use Rattle.nc_owner_laws.specs.Reaping.{steps_woven, next_behind}
 use Rattle.nc_owner_laws.specs.Weave.{weave}
 use Rattle.nc_history.specs.Packets.{Packet, packet}
 use Rattle.nc_worker_state.specs.Setup.{Setup}
 use Rattle.nc_worker_state.specs.Incoming.{Incoming}
 use Rattle.nc_worker_state.specs.Deed.{told, next_after}
-use Rattle.nc_worker_state.specs.Owned.{Holding, Owned, StepPolls, StepPollsFit, owned_in}
+use Rattle.nc_worker_state.specs.Owned.{Holding, Owned, OwnersPart, StepPolls, StepPollsFit, owned_in}
 use Rattle.nc_worker_state.specs.Desk.{Desk, Served, new_desk, opening, served}
 
 -- a worker: its owner, the rest, the number of the next packet to each worker, and the packets that wait to be carried there
@@ -60,28 +61,32 @@ given_back counts (e ∷ es) = given_back counts es
 abbrev pub holding : ℕ → Seat → Holding
 holding me s = record { owner = s.worker.owner; row = s.row; counts = s.counts me }
 
--- the events of an owner's part, with the alerts that it makes
+-- the events of what an owner does at once, with the alerts that it makes
 abbrev pub woven : ℕ → (ℕ → ℕ) → Owned → List Event
 woven me next o = weave me next o.events o.alerts
 
+-- the events of an owner's part: each sweep with its alerts, and what it does last
+abbrev pub part_woven : ℕ → (ℕ → ℕ) → OwnersPart → List Event
+part_woven me next p = steps_woven me next p.sweeps ++ woven me (next_behind next p.sweeps) p.last
+
 -- the events of a step: what opens it, the owner's part, and the rest
-abbrev pub dealt_events : ℕ → (ℕ → ℕ) → List Event → Owned → Served → List Event
-dealt_events me next before o r = before ++ woven me next o ++ told me (next_after next (woven me next o)) r.deeds
+abbrev pub dealt_events : ℕ → (ℕ → ℕ) → List Event → OwnersPart → Served → List Event
+dealt_events me next before p r = before ++ part_woven me next p ++ told me (next_after next (part_woven me next p)) r.deeds
 
 -- what a step leaves: what it made waits to be carried, and what it released comes back to its slots
-abbrev pub dealt_worker : List Event → Owned → Served → WorkerAt → WorkerAt
-dealt_worker events o r s = record {
-  owner = o.after.owner;
+abbrev pub dealt_worker : List Event → OwnersPart → Served → WorkerAt → WorkerAt
+dealt_worker events p r s = record {
+  owner = p.last.after.owner;
   desk = r.after;
   next = next_after s.next events;
   outbox = λ to. s.outbox to ++ sent_to to events;
 }
 
-abbrev pub dealt_counts : ℕ → List Event → Owned → (ℕ → List ℕ) → ℕ → List ℕ
-dealt_counts me events o counts = given_back (with_at counts me o.after.counts) events
+abbrev pub dealt_counts : ℕ → List Event → OwnersPart → (ℕ → List ℕ) → ℕ → List ℕ
+dealt_counts me events p counts = given_back (with_at counts me p.last.after.counts) events
 
 module _ (setup : Setup) (me : ℕ) (polls : StepPolls) (incoming : Incoming) (s : Seat) where
-  abbrev pub owners_part : Owned
+  abbrev pub owners_part : OwnersPart
   owners_part = owned_in polls incoming (holding me s)
 
   abbrev pub other_part : Served
@@ -93,7 +98,7 @@ module _ (setup : Setup) (me : ℕ) (polls : StepPolls) (incoming : Incoming) (s
   abbrev pub step_seat : Seat
   step_seat = record {
     worker = dealt_worker step_events owners_part other_part s.worker;
-    row = owners_part.after.row;
+    row = owners_part.last.after.row;
     counts = dealt_counts me step_events owners_part s.counts;
   }
 

@@ -9,7 +9,7 @@ pub enum Input<H> {
     Packet(Packet<H>),
     /// Its clock reads so many seconds since 1970, at most 4,102,444,800.
     Clock(u64),
-    /// It goes over the channels that it owns: what has expired leaves, and slots that nobody holds are used again.
+    /// It goes over the channels that it owns: what has expired leaves, a channel that keeps nothing and nobody goes, and slots that nobody holds are used again.
     Reap,
     /// A message is published directly, without a content type.
     Post {
@@ -21,6 +21,10 @@ pub enum Input<H> {
         k: u64,
         list: ChanList,
         start: Start,
+    },
+    /// A channel is to be deleted, which is asked for directly.
+    Remove {
+        chan: ChanName,
     },
     /// Information on a channel is asked for directly.
     Inform {

@@ -13,7 +13,7 @@ use Rattle.nc_history.specs.Steps.{begins, joined}
 use Rattle.nc_worker_state.specs.Setup.{Setup}
 use Rattle.nc_world.specs.World.{sum_pairs}
 use Rattle.nc_world.specs.Moves.{Move, Carries, Takes, counted, rested, ring_size}
-use Rattle.nc_world.specs.Lines.{Line, Blank, Clocks, Reap, Carry, Take, Settle, Post, Poll, Inform, round, first_turn}
+use Rattle.nc_world.specs.Lines.{Line, Blank, Clocks, Reap, Carry, Take, Settle, Post, Poll, Remove, Inform, round, first_turn}
 use Rattle.nc_world.specs.OwnersRule.{IsReapOf}
 
 -- how many alerts are pending
@@ -107,6 +107,11 @@ pub record IsPost (setup : Setup) (w : ℕ) (c body : List ℕ) (events : List E
   pub n : ℕ
   pub same : events ≡ Asked w r None acts.Publish (Some (c ∷ [])) 0 0 ∷ Made w (owner_of setup.workers c) n (alerts.Publish r c setup.length setup.timeout None body) ∷ []
 
+pub record IsRemove (setup : Setup) (w : ℕ) (c : List ℕ) (events : List Event) : Type 0 where
+  pub r : ℕ
+  pub n : ℕ
+  pub same : events ≡ Asked w r None acts.Delete (Some (c ∷ [])) 0 0 ∷ Made w (owner_of setup.workers c) n (alerts.Delete r c) ∷ []
+
 pub record IsInform (setup : Setup) (w : ℕ) (c : List ℕ) (events : List Event) : Type 0 where
   pub r : ℕ
   pub n : ℕ
@@ -122,6 +127,7 @@ IsSegment setup (Take w v) h carried events after = Ends setup.workers (MayMove 
 IsSegment setup (Settle n) h carried events after = Settled setup.workers n h carried events after
 IsSegment setup (Post w c body) h carried events after = Ends setup.workers (IsPost setup w c body) h events × IsSame after carried
 IsSegment setup (Poll w k list start) h carried events after = Ends setup.workers (IsStepFrom (Subscribed w k None list Direct start setup.sub_timeout false)) h events × IsSame after carried
+IsSegment setup (Remove w c) h carried events after = Ends setup.workers (IsRemove setup w c) h events × IsSame after carried
 IsSegment setup (Inform w c) h carried events after = Ends setup.workers (IsInform setup w c) h events × IsSame after carried
 
 -- a journal follows the lines, the last one first, and so many packets of each pair were carried

@@ -5,7 +5,7 @@ use Rattle.nc_types.specs.declared.start.Start.{Start}
 use Rattle.nc_journal.specs.declared.event.Event.{Event}
 use Rattle.nc_history.specs.Packets.{Packet}
 use Rattle.nc_worker_state.specs.Setup.{Setup}
-use Rattle.nc_worker_state.specs.Incoming.{ClockReads, Reaps, Posts, Subscribes, Informs}
+use Rattle.nc_worker_state.specs.Incoming.{ClockReads, Reaps, Posts, Subscribes, Removes, Informs}
 use Rattle.nc_world.specs.World.{World, new_world, pending_in}
 use Rattle.nc_world.specs.Moves.{Move, Handles, Carries, Takes, Counts, Rests, move_events, moved, ring_size}
 use Rattle.nc_world.specs.Reached.{IsMove}
@@ -20,6 +20,7 @@ pub data Line : Type 0 where
   Settle : ℕ → Line
   Post : ℕ → List ℕ → List ℕ → Line
   Poll : ℕ → ℕ → List (List ℕ) → Start → Line
+  Remove : ℕ → List ℕ → Line
   Inform : ℕ → List ℕ → Line
 
 -- ---- settling
@@ -73,6 +74,7 @@ moves_of setup (Take w v) world = Takes w v ∷ Rests ∷ []
 moves_of setup (Settle n) world = settle_moves setup n (round setup.workers) world ++ Counts ∷ []
 moves_of setup (Post w c body) world = Handles w (Posts c body) ∷ Rests ∷ []
 moves_of setup (Poll w k list start) world = Handles w (Subscribes k list start) ∷ Rests ∷ []
+moves_of setup (Remove w c) world = Handles w (Removes c) ∷ Rests ∷ []
 moves_of setup (Inform w c) world = Handles w (Informs c) ∷ Rests ∷ []
 
 -- what some moves do, one after the other

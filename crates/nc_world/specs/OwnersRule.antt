@@ -9,13 +9,13 @@ use Rattle.nc_journal.specs.declared.alert.AlertLine.{AlertLine}
 use Rattle.nc_owner_laws.specs.OwnerTold.{Tells}
 use Rattle.nc_owner_laws.specs.Fits.{Fits}
 use Rattle.nc_owner_laws.specs.Filters.{new_desk}
-use Rattle.nc_owner_laws.specs.Weave.{weave}
 use Rattle.nc_journal.specs.declared.alert.AlertLine.TheVariants as lines
 use Rattle.nc_history.specs.Packets.{Packet, packet, pending, made_count}
 use Rattle.nc_history.specs.Steps.{AtEachStepOf}
 use Rattle.nc_worker_state.specs.Setup.{Setup}
 use Rattle.nc_worker_state.specs.Incoming.{Incoming, TakesPacket, Reaps}
-use Rattle.nc_worker_state.specs.Owned.{Holding, Owned, owned}
+use Rattle.nc_worker_state.specs.Owned.{Holding, owned}
+use Rattle.nc_worker_state.specs.Worker.{part_woven}
 
 -- the numbers of a worker's next packets
 abbrev pub next_numbers : Setup → ℕ → List Event → ℕ → ℕ
@@ -32,7 +32,7 @@ pub record IsToldOwner (setup : Setup) (w : ℕ) (h : List Event) (s : Holding) 
 pub record IsOwnersStep (setup : Setup) (w : ℕ) (incoming : Incoming) (h events : List Event) : Type 0 where
   pub owner : Holding
   pub told : IsToldOwner setup w h owner
-  pub same : events ≡ weave w (next_numbers setup w h) (owned incoming owner).events (owned incoming owner).alerts
+  pub same : events ≡ part_woven w (next_numbers setup w h) (owned incoming owner)
 
 -- an event that is none of an owner
 abbrev pub IsNoOwners : Event → Type 0
@@ -58,6 +58,7 @@ IsStepOf setup w from n (lines.Look number c after fence) h events = IsOwnersSte
 IsStepOf setup w from n (lines.Edge number k c fence) h events = IsOwnersStep setup w (TakesPacket from (packet n (lines.Edge number k c fence))) h events
 IsStepOf setup w from n (lines.Join c k) h events = IsOwnersStep setup w (TakesPacket from (packet n (lines.Join c k))) h events
 IsStepOf setup w from n (lines.Part c k) h events = IsOwnersStep setup w (TakesPacket from (packet n (lines.Part c k))) h events
+IsStepOf setup w from n (lines.Delete r c) h events = IsOwnersStep setup w (TakesPacket from (packet n (lines.Delete r c))) h events
 IsStepOf setup w from n (lines.Info r c) h events = IsOwnersStep setup w (TakesPacket from (packet n (lines.Info r c))) h events
 IsStepOf setup w from n line h events = AreNoOwners events
 

@@ -7,7 +7,7 @@ use Rattle.nc_journal.specs.Standing.{StartFits, is_subscribed}
 use Rattle.nc_journal.specs.declared.event.Event.{Event}
 use Rattle.nc_owner.specs.Moment.{IsClock}
 use Rattle.nc_worker_state.specs.Setup.{Setup}
-use Rattle.nc_worker_state.specs.Incoming.{Incoming, TakesPacket, ClockReads, Reaps, Posts, Subscribes, Informs}
+use Rattle.nc_worker_state.specs.Incoming.{Incoming, TakesPacket, ClockReads, Reaps, Posts, Subscribes, Removes, Informs}
 use Rattle.nc_world.specs.World.{World, new_world}
 use Rattle.nc_world.specs.Moves.{Move, Handles, Carries, Takes, Counts, Rests, move_events, moved}
 
@@ -29,6 +29,7 @@ IsInput w h (ClockReads t) = IsClock t
 IsInput w h Reaps = Unit {0}
 IsInput w h (Posts c body) = Unit {0}
 IsInput w h (Subscribes k list start) = Comes w k list start h
+IsInput w h (Removes c) = Unit {0}
 IsInput w h (Informs c) = Unit {0}
 
 -- a move that can be made: its workers are there

@@ -21,7 +21,7 @@ use Rattle.nc_spool.specs.Calls.{board_of, news_of, answer_facts, notice_facts, 
 use Rattle.nc_spool_laws.specs.Numbers.{one, total, IsOnce}
 use Rattle.nc_spool_laws.proofs.Totals.{total-append}
 use Rattle.nc_worker_state.specs.Setup.{Setup}
-use Rattle.nc_worker_state.specs.Incoming.{Incoming, TakesPacket, ClockReads, Reaps, Posts, Subscribes, Informs}
+use Rattle.nc_worker_state.specs.Incoming.{Incoming, TakesPacket, ClockReads, Reaps, Posts, Subscribes, Removes, Informs}
 use Rattle.nc_worker_state.specs.Deed.{Deed, Does, Makes, told}
 use Rattle.nc_worker_state.specs.Desk.{Desk, Served, replied, is_waiting, handled, settled, begun, served}
 use Rattle.nc_worker_state.specs.Spooled.{Hold, ask_line, fact_deed, facts_deeds, release, releases, found_by, found_in}
@@ -150,6 +150,7 @@ module _ (me : ℕ) (base : ℕ → ℕ) where
     begun_draws setup (ClockReads t) = nothing_draws d
     begun_draws setup Reaps = nothing_draws d
     begun_draws setup (Posts c body) = λ i. nothing_draws d i
+    begun_draws setup (Removes c) = λ i. nothing_draws d i
     begun_draws setup (Informs c) = λ i. nothing_draws d i
     begun_draws setup (Subscribes k list start_at) = λ i. end _ _ (arrive_facts k list start_at true d.spools) ((drawn_kept base).arrive (record { k = k; once = true }) list start_at (board_of d.spools) tt (start i))
 

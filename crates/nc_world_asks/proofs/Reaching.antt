@@ -13,7 +13,7 @@ use Rattle.nc_owner_laws.specs.Used.{times}
 use Rattle.nc_spool_laws.specs.Numbers.{total, IsOnce}
 use Rattle.nc_history.specs.Packets.{Packet, first_line, IsNext}
 use Rattle.nc_worker_state.specs.Setup.{Setup}
-use Rattle.nc_worker_state.specs.Incoming.{Incoming, TakesPacket, ClockReads, Reaps, Posts, Subscribes, Informs}
+use Rattle.nc_worker_state.specs.Incoming.{Incoming, TakesPacket, ClockReads, Reaps, Posts, Subscribes, Removes, Informs}
 use Rattle.nc_worker_state.specs.Deed.{next_after}
 use Rattle.nc_worker_state.specs.Worker.{WorkerAt, with_at, dealt_worker, holding}
 use Rattle.nc_world.specs.World.{World, seat, polls_of, handled_events, handled}
@@ -22,19 +22,18 @@ use Rattle.nc_world.specs.Reached.{IsSetup, IsInput}
 use Rattle.nc_world_laws.specs.Good.{Good}
 use Rattle.nc_world_laws.specs.Kinds.{IsUnmade, IsOfWorker}
 use Rattle.nc_world_laws.specs.WorldTheme.{IsWorldTheme}
-use Rattle.nc_owner_laws.specs.Kinds.{IsOfOwner}
-use Rattle.nc_world_laws.proofs.Local.{all_of, own_onto, own_other}
+use Rattle.nc_world_laws.proofs.Local.{own_onto, own_other}
 use Rattle.nc_world_laws.proofs.Acting.{with_all}
 use Rattle.nc_world_laws.proofs.Frames.{own_step, handled_onto}
-use Rattle.nc_world_laws.proofs.Parts.{owns, serves, before, part, behind, of, behind_all, step_by}
+use Rattle.nc_world_laws.proofs.Parts.{owns, serves, before, part, behind, part_events, part_alerts, part_made, behind_all, step_by}
 use Rattle.nc_world_laws.proofs.Taking.{first_pending}
-use Rattle.nc_world_laws.proofs.Telling.{woven_made, unmade_owner}
+use Rattle.nc_world_laws.proofs.Telling.{PartEvents, PartAlerts, woven_part_all, unmade_owner}
 use Rattle.nc_world_laws.proofs.WorldThemes.{world_theme_holds}
 use Rattle.nc_rests.specs.Asking.{HasAsk, ask_numbers, AreAsked}
 use Rattle.nc_rests.proofs.Asks.{ask_more, asks_stay, next_asked}
 use Rattle.nc_world_asks.specs.Asks.{AsksStand, ReachedAsks, ReachedAskWell}
 use Rattle.nc_world_asks.proofs.Counted.{event_at, deed_at, numbers_onto, told_count, same_once, served_draws}
-use Rattle.nc_world_asks.proofs.Unlooked.{IsUnasking, MakesUnasking, IsAskedFor, ComesAsked, LineAsks, looks_owned, unasking_owned}
+use Rattle.nc_world_asks.proofs.Unlooked.{IsUnasking, MakesUnasking, IsAskedFor, ComesAsked, LineAsks, looks_line, looks_removed, unasking_line}
 
 -- ---- looks that were asked for
 
@@ -76,6 +75,7 @@ comes_onto w (ClockReads t) es h k = tt
 comes_onto w Reaps es h k = tt
 comes_onto w (Posts c body) es h k = tt
 comes_onto w (Subscribes k list start) es h q = tt
+comes_onto w (Removes c) es h k = tt
 comes_onto w (Informs c) es h k = tt
 
 -- ---- a worker's step
@@ -122,6 +122,7 @@ module _ (setup : Setup) (is : IsSetup setup) (x : ℕ) (incoming : Incoming) (h
       by Reaps = tt
       by (Posts c body) = (tt, tt)
       by (Subscribes k list start) = (tt, tt)
+      by (Removes c) = (tt, tt)
       by (Informs c) = (tt, tt)
 
   opening_looks : (w : ℕ) (asks : List Event) → AllByRecursion (IsAskedFor w asks) (before setup x incoming world)
@@ -133,12 +134,15 @@ module _ (setup : Setup) (is : IsSetup setup) (x : ℕ) (incoming : Incoming) (h
       by Reaps = tt
       by (Posts c body) = (tt, tt)
       by (Subscribes k list start) = (tt, tt)
+      by (Removes c) = (tt, tt)
       by (Informs c) = (tt, tt)
 
-  part_unasking : AllByRecursion MakesUnasking (part x incoming world)
-  part_unasking = woven_made MakesUnasking (λ (a : OutLine). IsUnasking a.line) x (λ n a p. p) (world.workers x).next (owns x incoming world).events (owns x incoming world).alerts
-      (all_of (IsOfOwner x) MakesUnasking (λ e p. unmade_unasking e (unmade_owner x e p)) (owns x incoming world).events (of setup is x incoming h world g))
-      (unasking_owned (polls_of x incoming world) incoming (holding x (seat x world)))
+  -- the owner asks nobody
+  pub owner_unasking : PartAlerts (λ (a : OutLine). IsUnasking a.line) (owns x incoming world)
+  owner_unasking = part_alerts setup is x incoming h world g (λ (a : OutLine). IsUnasking a.line) (λ from p e. unasking_line (polls_of x incoming world).publish from p.line (holding x (seat x world))) (λ c subs to mine. tt)
+
+  pub part_unasking : AllByRecursion MakesUnasking (part x incoming world)
+  part_unasking = part_made setup is x incoming h world g MakesUnasking (λ (a : OutLine). IsUnasking a.line) (λ e p. unmade_unasking e (unmade_owner x e p)) (λ n a p. p) owner_unasking
 
   -- the numbers that were drawn
   count_step : (n : ℕ) (l : List Event) → times n (ask_numbers (onto (handled_events setup x incoming world) l)) ≡ times n (ask_numbers l) + total (deed_at n) (serves setup x incoming world).deeds
@@ -153,13 +157,16 @@ module _ (setup : Setup) (is : IsSetup setup) (x : ℕ) (incoming : Incoming) (h
       omega (arith, a, b, c, d, e, f, t)
 
   -- the looks that were made
+  part_looks : (w : ℕ) (asks : List Event) → ComesAsked w asks incoming → PartEvents (IsAskedFor w asks) (owns x incoming world)
+  part_looks w asks comes = part_events setup is x incoming h world g (IsAskedFor w asks)
+      (λ from p e. looks_line w asks (polls_of x incoming world).publish from p.line (holding x (seat x world)) (subst (ComesAsked w asks) e comes)) (looks_removed w asks setup.workers x) (λ slot. tt)
+
   looks_step : (w : ℕ) (asks : List Event) → ComesAsked w asks incoming → (l : List Event) → AreAsked w asks l → AreAsked w asks (onto (handled_events setup x incoming world) l)
   looks_step w asks comes l k =
       subst (AreAsked w asks) (sym (handled_onto setup is x incoming h world g l))
       (are_onto w asks (behind setup x incoming world) _ (behind_all setup is x incoming h world g (IsAskedFor w asks) (worker_looks w x asks) (λ to n a. tt))
       (are_onto w asks (part x incoming world) _
-      (woven_made (IsAskedFor w asks) (λ (a : OutLine). IsUnasking a.line) x (λ n a p. tt) (world.workers x).next (owns x incoming world).events (owns x incoming world).alerts
-      (looks_owned w asks (polls_of x incoming world) incoming (holding x (seat x world)) comes) (unasking_owned (polls_of x incoming world) incoming (holding x (seat x world))))
+      (woven_part_all (IsAskedFor w asks) x (world.workers x).next (λ to n a. tt) (owns x incoming world) (part_looks w asks comes))
       (are_onto w asks (before setup x incoming world) l (opening_looks w asks) k)))
 
   module _ (k : AsksStand h world) (comes : (w : ℕ) → ComesAsked w (own w h) incoming) where
@@ -197,6 +204,7 @@ input_comes x (ClockReads t) h i w = tt
 input_comes x Reaps h i w = tt
 input_comes x (Posts c body) h i w = tt
 input_comes x (Subscribes k list start) h i w = tt
+input_comes x (Removes c) h i w = tt
 input_comes x (Informs c) h i w = tt
 
 next_comes : (w v x : ℕ) (line : AlertLine) (h : List Event) → IsNext v x line h → LineAsks w (own w h) v line

@@ -1,10 +1,10 @@
 -- What an owner's step looks for, and that it asks nobody.
-use Rattle.std.proofs.Common.{◌≡◌, ℕ, ◌+◌, Bool, true, false, cond, List, [], ◌∷◌, ◌++◌, Option, Some, None, map, fold}
+use Rattle.std.proofs.Common.{◌≡◌, ℕ, ◌+◌, Bool, true, false, cond, List, [], ◌∷◌, ◌++◌, Option, Some, None, map}
 use Rattle.std.specs.List.{AllByRecursion}
 use Rattle.nc_types.specs.Id.{Id}
 use Rattle.nc_types.specs.declared.info.Info.{Info}
 use Rattle.nc_journal.specs.declared.event.Event.{Event}
-use Rattle.nc_journal.specs.declared.event.Event.TheVariants.{Looked, Parted, Made}
+use Rattle.nc_journal.specs.declared.event.Event.TheVariants.{Left, Looked, Parted, Removed, Made}
 use Rattle.nc_journal.specs.declared.word.LeftCause.{LeftCause}
 use Rattle.nc_journal.specs.declared.word.LeftCause.TheVariants.{Length, Expired, Spent}
 use Rattle.nc_journal.specs.declared.alert.AlertLine.{AlertLine}
@@ -17,18 +17,21 @@ use Rattle.nc_owner.specs.AlertLines.{OutLine}
 use Rattle.nc_owner.specs.Members.{has_member}
 use Rattle.nc_owner.specs.State.{Bench, bench_of, opened, exists}
 use Rattle.nc_owner.specs.Leave.{left_event, leavers, touched}
-use Rattle.nc_owner.specs.Poll.{freed_event, freed_events, free_slots}
+use Rattle.nc_owner.specs.Poll.{freed_event, free_slots}
 use Rattle.nc_owner.specs.Publish.{Polls, Outcome, late, stored, full as is_all, notices, answer, stamp, stored_status, store_bench, granted_events, asked, roomy, roomy_events, stored_events, leaving, lowest_slot, post_events, post_alerts, cleared_events, publish_outcome, publish_cleared, info_of}
 use Rattle.nc_owner.specs.Look.{found_on, looked_event, found_events, found_line, look_ready, look_events}
 use Rattle.nc_owner.specs.Fence.{raise_events}
 use Rattle.nc_owner.specs.Edge.{edge_events}
-use Rattle.nc_owner.specs.OtherSteps.{touch_events_of, touched_of, names_of}
+use Rattle.nc_owner.specs.OtherSteps.{touch_events_of, touched_of}
+use Rattle.nc_owner.specs.Remove.{delete_events}
 use Rattle.nc_owner_laws.proofs.Fences.{raise_are, edge_are}
-use Rattle.nc_reaper.specs.Reap.{Swept, state, swept, swept_all}
+use Rattle.nc_owner_laws.proofs.Sweeping.{deletion_told}
+use Rattle.nc_owner_laws.specs.Sweeping.{IsOfRemovals}
 use Rattle.nc_rests.specs.Asking.{HasAsk}
-use Rattle.nc_worker_state.specs.Incoming.{Incoming, TakesPacket, ClockReads, Reaps, Posts, Subscribes, Informs}
-use Rattle.nc_worker_state.specs.Owned.{Holding, StepPolls, fenced, owned_by, owned_in, order_of, member_of}
+use Rattle.nc_worker_state.specs.Incoming.{Incoming, TakesPacket}
+use Rattle.nc_worker_state.specs.Owned.{Holding, fenced, owned_by, order_of, member_of}
 use Rattle.nc_world_laws.proofs.Local.{all_append, all_of}
+use Rattle.nc_world_asks.proofs.Deleted.{delete_are}
 
 -- ---- looks
 
@@ -71,12 +74,8 @@ less_publish polls from o s =
     (all_append IsUnlooked (touch_events_of o.chan s.row s.owner) (map (freed_event s.owner.desk.me) (free_slots polls.retired)) (less_touch o.chan s) (less_freed s.owner.desk.me (free_slots polls.retired)))
     (less_post (publish_outcome o polls s.row s.owner) from o polls (publish_cleared o polls s.row s.owner))
 
-less_swept : (names : List (List ℕ)) (x : Swept) → AreUnlooked x.events → AreUnlooked (fold swept x names).events
-less_swept [] x a = a
-less_swept (c ∷ names) x a = less_swept names (swept x c) (all_append IsUnlooked x.events (touch_events_of c x.row x.owner) a (less_touch c (record { owner = x.owner; row = x.row; counts = [] })))
-
-less_reap : (polls : StepPolls) (s : Holding) → AreUnlooked (owned_in polls Reaps s).events
-less_reap polls s = all_append IsUnlooked (swept_all s.row s.owner).events (freed_events s.owner.desk.me polls.reap) (less_swept (names_of s.owner) (state s.owner s.row []) tt) (less_freed s.owner.desk.me (free_slots polls.reap))
+less_delete : (c : List ℕ) (s : Holding) → AreUnlooked (delete_events c s.row s.owner)
+less_delete c s = delete_are IsUnlooked c s.row s.owner less_left (λ w last. tt)
 
 less_parted : (w from k : ℕ) (c : List ℕ) (b : Bool) → AreUnlooked (cond b (Parted w c from k ∷ []) [])
 less_parted w from k c true = (tt, tt)
@@ -123,7 +122,7 @@ module _ (w : ℕ) (asks : List Event) where
   looks_behind : (fence : ℕ) (s : Holding) (es : List Event) → AllByRecursion (IsAskedFor w asks) es → AllByRecursion (IsAskedFor w asks) (raise_events fence s.owner ++ es)
   looks_behind fence s es k = all_append (IsAskedFor w asks) (raise_events fence s.owner) es (raise_are (IsAskedFor w asks) fence s.owner tt) k
 
-  looks_line : (polls : Polls) (from : ℕ) (line : AlertLine) (s : Holding) → LineAsks w asks from line → AllByRecursion (IsAskedFor w asks) (owned_by polls from line s).events
+  pub looks_line : (polls : Polls) (from : ℕ) (line : AlertLine) (s : Holding) → LineAsks w asks from line → AllByRecursion (IsAskedFor w asks) (owned_by polls from line s).events
   looks_line polls from (lines.Publish r c len timeout ct body) s ask = plains _ (less_publish polls from (order_of r c len timeout ct body) s)
   looks_line polls from (lines.Look number c after fence) s ask = looks_behind fence s _ (looks_look from number c after (fenced fence s) ask)
   looks_line polls from (lines.Info r c) s ask = plains _ (less_touch c s)
@@ -134,18 +133,16 @@ module _ (w : ℕ) (asks : List Event) where
   looks_line polls from (lines.Notice c id g slot) s ask = tt
   looks_line polls from (lines.Edge number k c fence) s ask = looks_behind fence s _ (plains _ (less_edge from number k c (fenced fence s)))
   looks_line polls from (lines.EdgeAnswer number q floor last) s ask = tt
-  looks_line polls from (lines.Delete r c) s ask = tt
+  looks_line polls from (lines.Delete r c) s ask = plains _ (less_delete c s)
   looks_line polls from (lines.DelAnswer r status info) s ask = tt
   looks_line polls from (lines.Gone c subs) s ask = tt
   looks_line polls from (lines.InfoAnswer r status info) s ask = tt
 
-  pub looks_owned : (polls : StepPolls) (incoming : Incoming) (s : Holding) → ComesAsked w asks incoming → AllByRecursion (IsAskedFor w asks) (owned_in polls incoming s).events
-  looks_owned polls (TakesPacket from p) s ask = looks_line polls.publish from p.line s ask
-  looks_owned polls (ClockReads t) s ask = tt
-  looks_owned polls Reaps s ask = plains _ (less_reap polls s)
-  looks_owned polls (Posts c body) s ask = tt
-  looks_owned polls (Subscribes k list start) s ask = tt
-  looks_owned polls (Informs c) s ask = tt
+  -- what is removed in a reap, and what polls free, is no look
+  pub looks_removed : (workers me : ℕ) (e : Event) → IsOfRemovals workers me e → IsAskedFor w asks e
+  looks_removed workers me (Left v c id slot cause) p = tt
+  looks_removed workers me (Removed v c last cause) p = tt
+  looks_removed workers me e p = absurd p
 
 -- ---- alerts that ask for no look or edge
 
@@ -158,7 +155,7 @@ abbrev pub MakesUnasking : Event → Type 0
 MakesUnasking (Made w to n a) = IsUnasking a
 MakesUnasking _ = Unit {0}
 
-abbrev AreUnasking : List OutLine → Type 0
+abbrev pub AreUnasking : List OutLine → Type 0
 AreUnasking alerts = AllByRecursion (λ (a : OutLine). IsUnasking a.line) alerts
 
 unasking_notices : (c : List ℕ) (id : Id) (slot g : ℕ) (marks : List ℕ) → AreUnasking (notices c id slot g marks)
@@ -183,7 +180,7 @@ unasking_info : (r : ℕ) (b : Bool) (info : Option Info) → IsUnasking (cond b
 unasking_info r true info = tt
 unasking_info r false info = tt
 
-unasking_line : (polls : Polls) (from : ℕ) (line : AlertLine) (s : Holding) → AreUnasking (owned_by polls from line s).alerts
+pub unasking_line : (polls : Polls) (from : ℕ) (line : AlertLine) (s : Holding) → AreUnasking (owned_by polls from line s).alerts
 unasking_line polls from (lines.Publish r c len timeout ct body) s = let o = order_of r c len timeout ct body in unasking_post (publish_outcome o polls s.row s.owner) from o polls (publish_cleared o polls s.row s.owner)
 unasking_line polls from (lines.Look number c after fence) s = let b = look_ready c s.row (fenced fence s).owner in (unasking_found from number (found_on after b) b.desk, tt)
 unasking_line polls from (lines.Info r c) s = (unasking_info r (exists c s.owner) (Some (info_of (touched_of c s.row s.owner).channel)), tt)
@@ -194,15 +191,7 @@ unasking_line polls from (lines.LookAnswer number q floor found g slot) s = tt
 unasking_line polls from (lines.Notice c id g slot) s = tt
 unasking_line polls from (lines.Edge number k c fence) s = (tt, tt)
 unasking_line polls from (lines.EdgeAnswer number q floor last) s = tt
-unasking_line polls from (lines.Delete r c) s = tt
+unasking_line polls from (lines.Delete r c) s = deletion_told (λ (a : OutLine). IsUnasking a.line) c (λ members to. tt) from r s.row s.owner (λ status info is. tt)
 unasking_line polls from (lines.DelAnswer r status info) s = tt
 unasking_line polls from (lines.Gone c subs) s = tt
 unasking_line polls from (lines.InfoAnswer r status info) s = tt
-
-pub unasking_owned : (polls : StepPolls) (incoming : Incoming) (s : Holding) → AreUnasking (owned_in polls incoming s).alerts
-unasking_owned polls (TakesPacket from p) s = unasking_line polls.publish from p.line s
-unasking_owned polls (ClockReads t) s = tt
-unasking_owned polls Reaps s = tt
-unasking_owned polls (Posts c body) s = tt
-unasking_owned polls (Subscribes k list start) s = tt
-unasking_owned polls (Informs c) s = tt

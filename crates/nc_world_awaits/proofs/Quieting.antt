@@ -26,7 +26,7 @@ use Rattle.nc_spool_laws.specs.Tally.{reader_at, readers_of, start_at, stands}
 use Rattle.nc_spool_members.specs.Stages.{ReaderStands, SpoolStands, StartStarts, HasStage}
 use Rattle.nc_history.specs.Packets.{pending, lines_of}
 use Rattle.nc_worker_state.specs.Setup.{Setup}
-use Rattle.nc_worker_state.specs.Incoming.{Incoming, TakesPacket, ClockReads, Reaps, Posts, Subscribes, Informs}
+use Rattle.nc_worker_state.specs.Incoming.{Incoming, TakesPacket, ClockReads, Reaps, Posts, Subscribes, Removes, Informs}
 use Rattle.nc_world.specs.World.{World, handled_events, pending_in}
 use Rattle.nc_world.specs.Moves.{Counts, counted}
 use Rattle.nc_world.specs.Reached.{IsSetup, Reached, Moves}
@@ -246,6 +246,7 @@ module _ (setup : Setup) (is : IsSetup setup) where
   unquiet_opening w Reaps world = tt
   unquiet_opening w (Posts c body) world = (tt, tt)
   unquiet_opening w (Subscribes k list start) world = (tt, tt)
+  unquiet_opening w (Removes c) world = (tt, tt)
   unquiet_opening w (Informs c) world = (tt, tt)
 
   step_quiet : (w : ℕ) (i : Incoming) (h : List Event) (world : World) → Good setup h world → IsQuietRule h → IsQuietRule (onto (handled_events setup w i world) h)

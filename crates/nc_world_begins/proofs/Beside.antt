@@ -1,4 +1,4 @@
--- Facts that ask for no edge of a subscriber: those of the answer to a look and of a notice, and those of calls for other subscribers.
+-- Facts that ask for no edge of a subscriber: those of the answer to a look, of a notice and of a channel's removal, and those of calls for other subscribers.
 use Rattle.std.proofs.Common.{◌≡◌, ℕ, ◌+◌, Bool, true, false, cond, List, [], ◌∷◌, ◌++◌, Option, Some, None, refl, find, length}
 use Rattle.std.specs.Prelude.{◌==◌, fold, slice_index_or}
 use Rattle.std.specs.List.{AllByRecursion}
@@ -18,11 +18,11 @@ use Rattle.nc_spool_state.specs.declared.place.Quiet.{Quiet}
 use Rattle.nc_spool_state.specs.declared.spool.Reader.{Reader}
 use Rattle.nc_spool_state.specs.Choice.{is_below}
 use Rattle.nc_spool_state.specs.Edge.{is_any_awaited, is_any_behind, is_behind, edge_awaiting, newest_cursor}
-use Rattle.nc_spool_state.specs.Hear.{learned, notice_says}
+use Rattle.nc_spool_state.specs.Hear.{learned, notice_says, gone_says}
 use Rattle.nc_spool_state.specs.Key.{KeyAt, name_at, id_at, place_of}
 use Rattle.nc_spool_state.specs.Place.{place_awaiting}
 use Rattle.nc_spool_state.specs.Shelf.{spool_of, others, without_first, keys_with}
-use Rattle.nc_spool_state.specs.Spool.{SpoolAt, awaits, place_at, with_place}
+use Rattle.nc_spool_state.specs.Spool.{SpoolAt, awaits, place_at, with_place, has_reader}
 use Rattle.nc_spool_state.specs.Starting.{StartingAt, with_edge, start_awaits}
 use Rattle.nc_spool.specs.declared.ask.Ask.{Ask}
 use Rattle.nc_spool.specs.declared.ask.Ask.TheVariants as asks
@@ -30,9 +30,10 @@ use Rattle.nc_spool.specs.declared.board.Board.{Board}
 use Rattle.nc_spool.specs.declared.fact.Fact.{Fact}
 use Rattle.nc_spool.specs.declared.fact.Fact.TheVariants as facts
 use Rattle.nc_spool.specs.Arrive.{oldest_cursor, joined, started_by, arrived}
-use Rattle.nc_spool.specs.Board.{told as tells, made, looked, asked_from, entered}
+use Rattle.nc_spool.specs.Board.{told as tells, made, looked, asked_from, entered, parted}
 use Rattle.nc_spool.specs.Decide.{delivery, sending, fence_look, fence_looks, decided}
-use Rattle.nc_spool.specs.Hear.{heeded, answered, answered_by, answered_at, noticed, noticed_at, noticed_by, noticed_place}
+use Rattle.nc_spool.specs.Depart.{other_names, names_with, left, left_by, member_gone, member_gone_by, gone}
+use Rattle.nc_spool.specs.Hear.{heeded, answered, answered_by, answered_at, noticed, noticed_at, noticed_by, noticed_place, emptied_at, emptied_by, emptied_place}
 use Rattle.nc_spool.specs.Newest.{begun, edges_from, asked_edge, edge_behind, edges_behind, second_by, answered_all, went_on, edge_heard_at, edge_answered, edge_answered_by}
 use Rattle.nc_spool_laws.specs.Closed.{IsSending}
 use Rattle.nc_spool_laws.specs.Standing.{AnyLast, AnyKey, AnyNews, AnyAnswer, AnyFind}
@@ -139,6 +140,48 @@ module _ (k : ℕ) where
 
   pub noticed_beside : (c : List ℕ) (news : News) (b : Board) → AreBeside b → AreBeside (noticed c news b)
   noticed_beside c news b i = noticed_keys c news (keys_with c b.shelf) b i
+
+  -- ---- a channel is gone
+
+  parted_beside : (j : ℕ) (names : List (List ℕ)) (b : Board) → AreBeside b → AreBeside (fold (parted j) b names)
+  parted_beside j [] b i = i
+  parted_beside j (c ∷ names) b i = parted_beside j names (parted j b c) (out_beside c (asks.Part c j) b tt i)
+
+  left_beside : (j : ℕ) (b : Board) → AreBeside b → AreBeside (left j b)
+  left_beside j b i = by (find (has_reader j) b.shelf)
+    where
+      by : (o : Option SpoolAt) → AreBeside (left_by o j (record b { shelf = without_first (has_reader j) b.shelf }))
+      by None = i
+      by (Some s) = i
+
+  member_gone_beside : (c : List ℕ) (b : Board) (j : ℕ) → AreBeside b → AreBeside (member_gone c b j)
+  member_gone_beside c b j i = by (names_with j b)
+    where
+      by : (o : Option (List (List ℕ))) → AreBeside (member_gone_by o c j (left j b))
+      by None = left_beside j b i
+      by (Some names) = parted_beside j (other_names c names) (tells (facts.Ended j true) (left j b)) (all-append FactBeside (left j b).facts (facts.Ended j true ∷ []) (left_beside j b i) (tt, tt))
+
+  members_gone_beside : (c members : List ℕ) (b : Board) → AreBeside b → AreBeside (fold (member_gone c) b members)
+  members_gone_beside c [] b i = i
+  members_gone_beside c (j ∷ members) b i = members_gone_beside c members (member_gone c b j) (member_gone_beside c b j i)
+
+  emptied_one : (c : List ℕ) (b : Board) (key : KeyAt) → AreBeside b → AreBeside (emptied_at c b key)
+  emptied_one c b key i = by (spool_of key b.shelf)
+    where
+      at : (s : SpoolAt) (o : Option ℕ) → AreBeside (emptied_place o s (record b { shelf = others key b.shelf }))
+      at s None = i
+      at s (Some j) = heeded_beside (gone_says (place_at s j)) j s (record b { shelf = others key b.shelf }) i
+
+      by : (o : Option SpoolAt) → AreBeside (emptied_by o c (record b { shelf = others key b.shelf }))
+      by None = i
+      by (Some s) = at s (place_of c s.key.list)
+
+  emptied_keys : (c : List ℕ) (keys : List KeyAt) (b : Board) → AreBeside b → AreBeside (fold (emptied_at c) b keys)
+  emptied_keys c [] b i = i
+  emptied_keys c (key ∷ keys) b i = emptied_keys c keys (emptied_at c b key) (emptied_one c b key i)
+
+  pub gone_beside : (c members : List ℕ) (b : Board) → AreBeside b → AreBeside (gone c members b)
+  gone_beside c members b i = emptied_keys c (keys_with c (fold (member_gone c) b members).shelf) (fold (member_gone c) b members) (members_gone_beside c members b i)
 
   -- ---- another subscriber comes
 

@@ -6,6 +6,7 @@ pub mod EdgeStarting
 pub mod Staying
 pub mod Beside
 pub mod Arriving
+pub mod Losing
 pub mod Stepping
 pub mod Resting
 pub mod Laws

@@ -15,7 +15,7 @@ use Rattle.nc_journal.specs.declared.event.Event.{Event}
 use Rattle.nc_journal.specs.declared.event.Event.TheVariants.{Subscribed, Started, Sent, Ended, Released, Made, Pending, Quiet}
 use Rattle.nc_journal.specs.declared.event.Event.TheVariants as events
 use Rattle.nc_journal.specs.declared.word.AlertKind.TheVariants as kinds
-use Rattle.nc_journal.specs.declared.word.EndedCause.TheVariants.{Answered}
+use Rattle.nc_journal.specs.declared.word.EndedCause.TheVariants.{Answered, Deleted}
 use Rattle.nc_journal.specs.declared.alert.AlertLine.{AlertLine}
 use Rattle.nc_journal.specs.declared.alert.AlertLine.TheVariants as lines
 use Rattle.nc_owner.specs.AlertLines.{OutLine}
@@ -23,36 +23,34 @@ use Rattle.nc_owner_laws.specs.Kinds.{IsOfOwner}
 use Rattle.nc_spool_state.specs.declared.edge.Edge.TheVariants.{Known}
 use Rattle.nc_spool_state.specs.Kept.{is_idle}
 use Rattle.nc_spool_state.specs.Starting.{StartingAt}
-use Rattle.nc_spool.specs.Calls.{board_of, news_of, arrive_facts, answer_facts, edge_facts, notice_facts}
+use Rattle.nc_spool.specs.Calls.{board_of, news_of, arrive_facts, answer_facts, edge_facts, notice_facts, gone_facts}
 use Rattle.nc_spool_laws.specs.Numbers.{total}
 use Rattle.nc_spool_laws.specs.Tally.{start_at, stands}
 use Rattle.nc_spool_members.proofs.Started.{keep-starts}
 use Rattle.nc_history.specs.Packets.{Packet, packet, IsNext}
 use Rattle.nc_worker_state.specs.Setup.{Setup}
-use Rattle.nc_worker_state.specs.Incoming.{Incoming, TakesPacket, ClockReads, Reaps, Posts, Subscribes, Informs}
+use Rattle.nc_worker_state.specs.Incoming.{Incoming, TakesPacket, ClockReads, Reaps, Posts, Subscribes, Removes, Informs}
 use Rattle.nc_worker_state.specs.Deed.{Does, told, next_after}
 use Rattle.nc_worker_state.specs.Desk.{Desk, Served as Deeds, unserved, is_waiting, without, replied, handled as answered, begun}
 use Rattle.nc_worker_state.specs.Spooled.{Hold, found_in, found_by}
-use Rattle.nc_worker_state.specs.Worker.{WorkerAt, with_at, dealt_worker, holding}
-use Rattle.nc_world.specs.World.{World, seat, polls_of, handled_events, handled}
+use Rattle.nc_worker_state.specs.Worker.{WorkerAt, with_at, dealt_worker}
+use Rattle.nc_world.specs.World.{World, handled_events, handled}
 use Rattle.nc_world.specs.Moves.{carried_one}
 use Rattle.nc_world.specs.Reached.{IsSetup, Comes, IsInput, Reached}
-use Rattle.nc_world_laws.specs.Good.{Good, IsLineTo}
+use Rattle.nc_world_laws.specs.Good.{Good}
 use Rattle.nc_world_laws.specs.WorldTheme.{IsWorldTheme}
-use Rattle.nc_world_laws.proofs.Local.{either, eq_of, all_of}
+use Rattle.nc_world_laws.proofs.Local.{either, eq_of}
 use Rattle.nc_world_laws.proofs.Acting.{with_all}
 use Rattle.nc_world_laws.proofs.Frames.{handled_onto}
-use Rattle.nc_world_laws.proofs.Moving.{taken_right}
-use Rattle.nc_world_laws.proofs.Parts.{owns, serves, before, part, of, step_by}
-use Rattle.nc_world_laws.proofs.Telling.{woven_made}
+use Rattle.nc_world_laws.proofs.Parts.{owns, serves, before, part, part_made, step_by}
 use Rattle.nc_world_laws.proofs.WorldThemes.{world_theme_holds}
 use Rattle.nc_world_members.specs.Stages.{Starts}
 use Rattle.nc_world_members.proofs.Desks.{comes}
 use Rattle.nc_world_members.proofs.Moving.{reached_has_members}
 use Rattle.nc_world_members.proofs.Staging.{spools_stand}
 use Rattle.nc_world_members.proofs.Stepping.{unsubscribed_here, unsubscribed_there}
-use Rattle.nc_world_asks.proofs.Reaching.{ring_next}
-use Rattle.nc_world_asks.proofs.Unlooked.{IsUnasking, unasking_owned}
+use Rattle.nc_world_asks.proofs.Reaching.{owner_unasking, ring_next}
+use Rattle.nc_world_asks.proofs.Unlooked.{IsUnasking}
 use Rattle.nc_world_places.proofs.Framing.{then_releases}
 use Rattle.nc_world_places.proofs.Telling.{reached_owners_tell}
 use Rattle.nc_world_edges.specs.Edges.{ReachedTellsEdges, NextEdgeAnswers, EdgeAskedOnce, EdgeAskedBelow}
@@ -60,8 +58,9 @@ use Rattle.nc_world_begins.specs.Knowing.{StartHolds}
 use Rattle.nc_world_begins.specs.Calls.{EdgesGive, EdgeHolds, EdgeStarts, Unasked}
 use Rattle.nc_world_begins.specs.Begins.{HasStarts, ReachedHasStarts, AnswersStart}
 use Rattle.nc_world_begins.proofs.Staying.{IsBeside, MakesBeside, Stays, stays_then, stays_one, stays_onto, other_onto, start_stays, unasked_stays}
-use Rattle.nc_world_begins.proofs.Beside.{IsOthers, answered_beside, noticed_beside, arrived_beside, edged_beside, events_beside}
+use Rattle.nc_world_begins.proofs.Beside.{IsOthers, answered_beside, noticed_beside, gone_beside, arrived_beside, edged_beside, events_beside}
 use Rattle.nc_world_begins.proofs.Arriving.{others_stay, newest_holds}
+use Rattle.nc_world_begins.proofs.Losing.{loss_holds}
 
 -- ---- who is starting was subscribed
 
@@ -134,7 +133,7 @@ owner_beside w j e p = tt
 
 -- what comes to a worker is as it counts on
 abbrev Suits : Setup → ℕ → List Event → Incoming → Type 0
-Suits setup w h (TakesPacket from p) = IsNext from w p.line h × IsLineTo setup.workers w p.line
+Suits setup w h (TakesPacket from p) = IsNext from w p.line h
 Suits setup w h (Subscribes k list start) = Comes w k list start h
 Suits setup w h incoming = Unit {0}
 
@@ -144,6 +143,7 @@ input_suits setup w h (ClockReads t) i = tt
 input_suits setup w h Reaps i = tt
 input_suits setup w h (Posts c body) i = tt
 input_suits setup w h (Subscribes k list start) i = i
+input_suits setup w h (Removes c) i = tt
 input_suits setup w h (Informs c) i = tt
 
 -- ---- with the laws of edges
@@ -170,17 +170,19 @@ module _ (edge_holds : EdgeHolds) (tells : ReachedTellsEdges) (answers : NextEdg
     before_beside j Reaps = tt
     before_beside j (Posts c body) = (tt, tt)
     before_beside j (Subscribes k list start) = (tt, tt)
+    before_beside j (Removes c) = (tt, tt)
     before_beside j (Informs c) = (tt, tt)
 
     part_beside : (j : ℕ) (incoming : Incoming) → AllByRecursion (MakesBeside j) (part w incoming world)
-    part_beside j incoming = woven_made (MakesBeside j) (λ (a : OutLine). IsUnasking a.line) w (λ n a p. unasking_beside j a.line p) (world.workers w).next (owns w incoming world).events (owns w incoming world).alerts
-        (all_of (IsOfOwner w) (MakesBeside j) (owner_beside w j) (owns w incoming world).events (of setup is w incoming h world g))
-        (unasking_owned (polls_of w incoming world) incoming (holding w (seat w world)))
+    part_beside j incoming = part_made setup is w incoming h world g (MakesBeside j) (λ (a : OutLine). IsUnasking a.line) (owner_beside w j) (λ n a p. unasking_beside j a.line p) (owner_unasking setup is w incoming h world g)
 
     -- what opens a step, and its owner's part, leave all starts
     owned_stays : (incoming : Incoming) (j : ℕ) → Stays w j h (owned incoming)
     owned_stays incoming j = stays_then w j h (onto (before setup w incoming world) h) (owned incoming) (stays_onto w j (before setup w incoming world) h (before_beside j incoming))
         (stays_onto w j (part w incoming world) (onto (before setup w incoming world) h) (part_beside j incoming))
+
+    owned_hold : (incoming : Incoming) → AllByRecursion (StartHolds setup.workers w (owned incoming)) d.spools.starts
+    owned_hold incoming = all_stay setup.workers w h (owned incoming) (owned_stays incoming) d.spools.starts (has.hold w)
 
     -- what the worker does beside it leaves what is so of each start, and asks for no edge of one that was never subscribed
     abbrev Goes : (ℕ → ℕ) → Incoming → Deeds → Type 0
@@ -209,35 +211,39 @@ module _ (edge_holds : EdgeHolds) (tells : ReachedTellsEdges) (answers : NextEdg
           (edged_beside j number (Known last floor) (board_of d.spools) (all_others w j h d.spools.starts never (spools_stand setup h world is r w).1) tt),
     )
 
-    packet_goes : (next : ℕ → ℕ) (from n : ℕ) (line : AlertLine) → IsNext from w line h → IsLineTo setup.workers w line → Goes next (TakesPacket from (packet n line)) (answered w from line d)
-    packet_goes next from n (lines.LookAnswer number q floor past gr slot) first right =
+    -- who is left holds as before
+    gone_goes : (next : ℕ → ℕ) (from n : ℕ) (c subs : List ℕ) → Goes next (TakesPacket from (packet n (lines.Gone c subs))) (answered w from (lines.Gone c subs) d)
+    gone_goes next from n c subs = (
+      loss_holds setup.workers w next c subs (owned (TakesPacket from (packet n (lines.Gone c subs)))) d.spools (owned_hold (TakesPacket from (packet n (lines.Gone c subs)))),
+      λ j never other. events_beside j w Deleted next (gone_facts c subs d.spools) (gone_beside j c subs (board_of d.spools) tt),
+    )
+
+    packet_goes : (next : ℕ → ℕ) (from n : ℕ) (line : AlertLine) → IsNext from w line h → Goes next (TakesPacket from (packet n line)) (answered w from line d)
+    packet_goes next from n (lines.LookAnswer number q floor past gr slot) first =
         plain_goes next (TakesPacket from (packet n (lines.LookAnswer number q floor past gr slot))) (answered w from (lines.LookAnswer number q floor past gr slot) d)
         (λ j. events_beside j w Answered next (answer_facts number q floor (found_in from past gr slot) d.spools)
         (answered_beside j number (record { q = q; floor = floor }) (option_map news_of (found_in from past gr slot)) (board_of d.spools) tt))
         ((keep-starts Hold d.spools).answer number q floor (found_in from past gr slot))
-    packet_goes next from n (lines.Notice c id gr slot) first right =
+    packet_goes next from n (lines.Notice c id gr slot) first =
         plain_goes next (TakesPacket from (packet n (lines.Notice c id gr slot))) (answered w from (lines.Notice c id gr slot) d)
         (λ j. events_beside j w Answered next (notice_facts c (found_by from id gr slot) d.spools) (noticed_beside j c (news_of (found_by from id gr slot)) (board_of d.spools) tt))
         ((keep-starts Hold d.spools).notice c (found_by from id gr slot))
-    packet_goes next from n (lines.EdgeAnswer number q floor last) first right = edge_goes next from n number q floor last first
-    packet_goes next from n (lines.Gone c subs) first right = absurd right
-    packet_goes next from n (lines.PubAnswer m status info usage) first right = reply_goes next (TakesPacket from (packet n (lines.PubAnswer m status info usage))) m status info
-    packet_goes next from n (lines.InfoAnswer m status info) first right = reply_goes next (TakesPacket from (packet n (lines.InfoAnswer m status info))) m status info
-    packet_goes next from n (lines.DelAnswer m status info) first right = reply_goes next (TakesPacket from (packet n (lines.DelAnswer m status info))) m status info
-    packet_goes next from n (lines.Publish m c len timeout ct body) first right = plain_goes next (TakesPacket from (packet n (lines.Publish m c len timeout ct body))) (unserved d) (λ j. tt) refl
-    packet_goes next from n (lines.Look number c after fence) first right = plain_goes next (TakesPacket from (packet n (lines.Look number c after fence))) (unserved d) (λ j. tt) refl
-    packet_goes next from n (lines.Edge number m c fence) first right = plain_goes next (TakesPacket from (packet n (lines.Edge number m c fence))) (unserved d) (λ j. tt) refl
-    packet_goes next from n (lines.Join c m) first right = plain_goes next (TakesPacket from (packet n (lines.Join c m))) (unserved d) (λ j. tt) refl
-    packet_goes next from n (lines.Part c m) first right = plain_goes next (TakesPacket from (packet n (lines.Part c m))) (unserved d) (λ j. tt) refl
-    packet_goes next from n (lines.Delete m c) first right = plain_goes next (TakesPacket from (packet n (lines.Delete m c))) (unserved d) (λ j. tt) refl
-    packet_goes next from n (lines.Info m c) first right = plain_goes next (TakesPacket from (packet n (lines.Info m c))) (unserved d) (λ j. tt) refl
+    packet_goes next from n (lines.EdgeAnswer number q floor last) first = edge_goes next from n number q floor last first
+    packet_goes next from n (lines.Gone c subs) first = gone_goes next from n c subs
+    packet_goes next from n (lines.PubAnswer m status info usage) first = reply_goes next (TakesPacket from (packet n (lines.PubAnswer m status info usage))) m status info
+    packet_goes next from n (lines.InfoAnswer m status info) first = reply_goes next (TakesPacket from (packet n (lines.InfoAnswer m status info))) m status info
+    packet_goes next from n (lines.DelAnswer m status info) first = reply_goes next (TakesPacket from (packet n (lines.DelAnswer m status info))) m status info
+    packet_goes next from n (lines.Publish m c len timeout ct body) first = plain_goes next (TakesPacket from (packet n (lines.Publish m c len timeout ct body))) (unserved d) (λ j. tt) refl
+    packet_goes next from n (lines.Look number c after fence) first = plain_goes next (TakesPacket from (packet n (lines.Look number c after fence))) (unserved d) (λ j. tt) refl
+    packet_goes next from n (lines.Edge number m c fence) first = plain_goes next (TakesPacket from (packet n (lines.Edge number m c fence))) (unserved d) (λ j. tt) refl
+    packet_goes next from n (lines.Join c m) first = plain_goes next (TakesPacket from (packet n (lines.Join c m))) (unserved d) (λ j. tt) refl
+    packet_goes next from n (lines.Part c m) first = plain_goes next (TakesPacket from (packet n (lines.Part c m))) (unserved d) (λ j. tt) refl
+    packet_goes next from n (lines.Delete m c) first = plain_goes next (TakesPacket from (packet n (lines.Delete m c))) (unserved d) (λ j. tt) refl
+    packet_goes next from n (lines.Info m c) first = plain_goes next (TakesPacket from (packet n (lines.Info m c))) (unserved d) (λ j. tt) refl
 
     -- a subscriber comes, whose number is new
     comes_beside : (next : ℕ → ℕ) (n : ℕ) (list : List (List ℕ)) (start : Start) (j : ℕ) → (n == j) ≡ false → AllByRecursion (MakesBeside j) (told w next (begun setup w (Subscribes n list start) d).deeds)
     comes_beside next n list start j other = events_beside j w Answered next (arrive_facts n list start true d.spools) (arrived_beside j (record { k = n; once = true }) list start (board_of d.spools) other tt)
-
-    owned_hold : (incoming : Incoming) → AllByRecursion (StartHolds setup.workers w (owned incoming)) d.spools.starts
-    owned_hold incoming = all_stay setup.workers w h (owned incoming) (owned_stays incoming) d.spools.starts (has.hold w)
 
     nowhere : (n : ℕ) → is_subscribed n (own w h) ≡ false → stands n (board_of d.spools) ≡ 0
     nowhere n new = (reached_has_members setup h world is r).known w n new
@@ -259,10 +265,11 @@ module _ (edge_holds : EdgeHolds) (tells : ReachedTellsEdges) (answers : NextEdg
             c.distinct c.named (g.knows w) (nowhere n c.new) hold
 
     begun_goes : (next : ℕ → ℕ) (incoming : Incoming) → Suits setup w h incoming → Goes next incoming (begun setup w incoming d)
-    begun_goes next (TakesPacket from p) f = packet_goes next from p.number p.line f.0 f.1
+    begun_goes next (TakesPacket from p) f = packet_goes next from p.number p.line f
     begun_goes next (ClockReads t) f = plain_goes next (ClockReads t) (unserved d) (λ j. tt) refl
     begun_goes next Reaps f = plain_goes next Reaps (unserved d) (λ j. tt) refl
     begun_goes next (Posts c body) f = plain_goes next (Posts c body) (begun setup w (Posts c body) d) (λ j. (tt, tt)) refl
+    begun_goes next (Removes c) f = plain_goes next (Removes c) (begun setup w (Removes c) d) (λ j. (tt, tt)) refl
     begun_goes next (Informs c) f = plain_goes next (Informs c) (begun setup w (Informs c) d) (λ j. (tt, tt)) refl
     begun_goes next (Subscribes n list start) f = (arrive_goes next n list start f, λ j never other. comes_beside next n list start j other)
 
@@ -332,7 +339,7 @@ module _ (edge_holds : EdgeHolds) (tells : ReachedTellsEdges) (answers : NextEdg
     new = record { hold = λ w. tt; unasked = λ w k never o c. refl };
     handles = λ w incoming h world r g here i has. step_starts setup is w h world r g has incoming (input_suits setup w h incoming i);
     takes = λ w v p ps h world r g here there at has.
-        let s = step_starts setup is w h world r g has (TakesPacket v p) (ring_next setup w v p ps h world g at, taken_right setup w v p ps h world g at) in
+        let s = step_starts setup is w h world r g has (TakesPacket v p) (ring_next setup w v p ps h world g at) in
         record { hold = s.hold; unasked = s.unasked };
     carries = λ w v p ps h world r g here there at has. carried_starts setup.workers w v p ps h world has;
     pending = λ n h world r g same has. told_starts setup.workers (Pending (suc n)) h world (λ w j. stays_one w j (Pending (suc n)) h tt) (λ w j never. never) has;

@@ -9,10 +9,10 @@ use Rattle.nc_journal.specs.declared.event.Event.{Event}
 use Rattle.nc_journal.specs.declared.event.Event.TheVariants.{Took}
 use Rattle.nc_journal.specs.declared.word.AlertKind.{AlertKind}
 use Rattle.nc_owner_laws.specs.Wake.{made_to}
-use Rattle.nc_spool.specs.Calls.{SpoolsAt, board_of, edge_after, arrive_after}
+use Rattle.nc_spool.specs.Calls.{SpoolsAt, board_of, edge_after, arrive_after, gone_after}
 use Rattle.nc_spool_laws.specs.Tally.{stands, StandOnce}
 use Rattle.nc_worker_state.specs.Deed.{told}
-use Rattle.nc_worker_state.specs.Spooled.{Hold, arrives, edges}
+use Rattle.nc_worker_state.specs.Spooled.{Hold, arrives, edges, loses}
 use Rattle.nc_rests.specs.Owners.{IsByOwner}
 use Rattle.nc_starts.specs.Asked.{edge_numbers, EdgesDone}
 use Rattle.nc_starts.specs.Starts.{StartedThen}
@@ -47,6 +47,11 @@ EdgeStarts = (workers me from n number q floor : ℕ) (last : Id) (kind : AlertK
 -- nobody asked for an edge of a subscriber yet
 abbrev pub Unasked : (w k : ℕ) → List Event → Type 0
 Unasked w k h = (o : ℕ) (c : List ℕ) → edge_numbers k c (made_to o (own w h)) ≡ []
+
+-- a channel is gone: who is left holds still
+abbrev pub LossHolds : Type 0
+LossHolds = (workers me : ℕ) (next : ℕ → ℕ) (c subs : List ℕ) (h : List Event) (s : SpoolsAt Hold)
+    → AllByRecursion (StartHolds workers me h) s.starts → AllByRecursion (StartHolds workers me (onto (told me next (loses me c subs s).deeds) h)) (gone_after c subs s).starts
 
 -- a subscriber that stood nowhere comes, and holds then as all others do; h has its subscription
 abbrev pub NewestHolds : Type 0

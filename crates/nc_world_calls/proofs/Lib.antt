@@ -4,6 +4,8 @@ pub mod Knowing
 pub mod Noticing
 pub mod NoticeStep
 pub mod NoticeKnowing
+pub mod Losing
+pub mod LossKnowing
 pub mod Arriving
 pub mod ArrivalKnowing
 pub mod Edging

@@ -57,7 +57,7 @@ within_list : (j n : ℕ) → j < n → ltb j n ≡ true
 within_list j n l = grind (arith, nat_tests, l)
 
 -- where a spool heard of a channel, its place of that channel rests on no older answer
-heard_place : (c : List ℕ) (x : SpoolAt) (j : ℕ) → Heard c x → AreDistinct x.key.list → j < length x.key.list → name_eq (name_at x.key j) c ≡ true → has_answer (place_at x j) ≡ false
+pub heard_place : (c : List ℕ) (x : SpoolAt) (j : ℕ) → Heard c x → AreDistinct x.key.list → j < length x.key.list → name_eq (name_at x.key j) c ≡ true → has_answer (place_at x j) ≡ false
 heard_place c x j heard d l e =
     heard j (ap (λ (p : ℕ). cond (ltb p (length x.key.list)) (Some p) None) (place_named c x.key.list j d l e) ∙ ap (λ b. cond b (Some j) None) (within_list j (length x.key.list) l))
 
@@ -65,11 +65,11 @@ heard_place c x j heard d l e =
 
 module _ (workers me : ℕ) (c : List ℕ) (h l : List Event) where
   -- an answer of nothing rests as before the step at the signalled channel, and elsewhere as at its end
-  abbrev RestedBy : Bool → List ℕ → Id → Quiet → Type 0
+  abbrev pub RestedBy : Bool → List ℕ → Id → Quiet → Type 0
   RestedBy true d after quiet = RestsAt workers me d after (Nothing quiet.q quiet.floor) h
   RestedBy false d after quiet = RestsAt workers me d after (Nothing quiet.q quiet.floor) l
 
-  abbrev RestedHere : List ℕ → Id → Quiet → Type 0
+  abbrev pub RestedHere : List ℕ → Id → Quiet → Type 0
   RestedHere d after quiet = RestedBy (name_eq d c) d after quiet
 
   module _ (late : (d : List ℕ) (after : Id) (quiet : Quiet) → name_eq d c ≡ false → RestsAt workers me d after (Nothing quiet.q quiet.floor) h → RestsAt workers me d after (Nothing quiet.q quiet.floor) l)
@@ -79,7 +79,7 @@ module _ (workers me : ℕ) (c : List ℕ) (h l : List Event) where
     rested_late true d after quiet e k = k
     rested_late false d after quiet e k = late d after quiet e k
 
-    knows_at : (d : List ℕ) (after : Id) (p : Place) → PlaceHolds workers me d after p h → Knows (Was workers me l) RestedHere (Came workers me l) d after p
+    pub knows_at : (d : List ℕ) (after : Id) (p : Place) → PlaceHolds workers me d after p h → Knows (Was workers me l) RestedHere (Came workers me l) d after p
     knows_at d after (places.Asked number None) k = asked_late number d after k.0
     knows_at d after (places.Asked number (Some quiet)) k = (asked_late number d after k.0, rested_late (name_eq d c) d after quiet refl k.1)
     knows_at d after (places.Nothing quiet) k = rested_late (name_eq d c) d after quiet refl k
@@ -89,7 +89,7 @@ module _ (workers me : ℕ) (c : List ℕ) (h l : List Event) where
   rests_now true d after quiet other k = absurd (other refl)
   rests_now false d after quiet other k = k
 
-  holds_at : (d : List ℕ) (after : Id) (p : Place) → (name_eq d c ≡ true → has_answer p ≡ false) → Knows (Was workers me l) RestedHere (Came workers me l) d after p → PlaceHolds workers me d after p l
+  pub holds_at : (d : List ℕ) (after : Id) (p : Place) → (name_eq d c ≡ true → has_answer p ≡ false) → Knows (Was workers me l) RestedHere (Came workers me l) d after p → PlaceHolds workers me d after p l
   holds_at d after (places.Asked number None) heard k = (k, tt)
   holds_at d after (places.Asked number (Some quiet)) heard k = (k.0, rests_now (name_eq d c) d after quiet (λ e. let x : true ≡ false = heard e in absurd cc) k.1)
   holds_at d after (places.Nothing quiet) heard k = rests_now (name_eq d c) d after quiet (λ e. let x : true ≡ false = heard e in absurd cc) k

@@ -1,4 +1,5 @@
 pub mod Answering
 pub mod Noticing
+pub mod Losing
 pub mod Arriving
 pub mod Edging

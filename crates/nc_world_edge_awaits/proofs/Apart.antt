@@ -11,7 +11,7 @@ use Rattle.nc_spool_laws.specs.Numbers.{total, edges_of, AreApart}
 use Rattle.nc_spool_laws.proofs.Numbers.{apart-kept}
 use Rattle.nc_history.specs.Packets.{Packet}
 use Rattle.nc_worker_state.specs.Setup.{Setup}
-use Rattle.nc_worker_state.specs.Incoming.{Incoming, TakesPacket, ClockReads, Reaps, Posts, Subscribes, Informs}
+use Rattle.nc_worker_state.specs.Incoming.{Incoming, TakesPacket, ClockReads, Reaps, Posts, Subscribes, Removes, Informs}
 use Rattle.nc_worker_state.specs.Spooled.{found_in, found_by}
 use Rattle.nc_worker_state.specs.Desk.{Desk, Served, unserved, is_waiting, replied, handled as answered, begun}
 use Rattle.nc_worker_state.specs.Worker.{WorkerAt, with_at, dealt_worker}
@@ -54,6 +54,7 @@ module _ (me : ℕ) (d : Desk) (apart : IsApart d) where
   begun_apart setup (ClockReads t) = apart
   begun_apart setup Reaps = apart
   begun_apart setup (Posts c body) = record { once = apart.once; below = apart.below }
+  begun_apart setup (Removes c) = record { once = apart.once; below = apart.below }
   begun_apart setup (Informs c) = record { once = apart.once; below = apart.below }
   begun_apart setup (Subscribes m list start) = let k = apart-kept.arrive (record { k = m; once = true }) list start (board_of d.spools) tt apart in record { once = k.once; below = k.below }
 

@@ -16,7 +16,7 @@ use Rattle.nc_spool_laws.specs.Numbers.{total, edges_of}
 use Rattle.nc_history.specs.Packets.{Packet, kind_of, pending, received, first_line, lines_of}
 use Rattle.nc_history.proofs.Prefixes.{taken_is_prefix}
 use Rattle.nc_worker_state.specs.Setup.{Setup}
-use Rattle.nc_worker_state.specs.Incoming.{Incoming, TakesPacket, ClockReads, Reaps, Posts, Subscribes, Informs}
+use Rattle.nc_worker_state.specs.Incoming.{Incoming, TakesPacket, ClockReads, Reaps, Posts, Subscribes, Removes, Informs}
 use Rattle.nc_worker_state.specs.Spooled.{found_in, found_by}
 use Rattle.nc_worker_state.specs.Desk.{Desk, Served, unserved, is_waiting, replied, handled as answered, begun}
 use Rattle.nc_worker_state.specs.Worker.{WorkerAt, with_at, dealt_worker}
@@ -70,6 +70,7 @@ module _ (me : ℕ) (d : Desk) where
     step_few setup (ClockReads t) = few
     step_few setup Reaps = few
     step_few setup (Posts c body) = few
+    step_few setup (Removes c) = few
     step_few setup (Informs c) = few
     step_few setup (Subscribes m list start) = ((few_kept n k).arrive (record { k = m; once = true }) list start (board_of d.spools) tt (drawn, few)).1
 

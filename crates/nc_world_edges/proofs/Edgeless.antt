@@ -1,10 +1,10 @@
 -- An owner's step tells no edge and answers none, but where an edge is asked for.
-use Rattle.std.proofs.Common.{ℕ, ◌+◌, Bool, true, false, cond, List, [], ◌∷◌, ◌++◌, Option, Some, None, map, fold}
+use Rattle.std.proofs.Common.{ℕ, ◌+◌, Bool, true, false, cond, List, [], ◌∷◌, ◌++◌, Option, Some, None, map}
 use Rattle.std.specs.List.{AllByRecursion}
 use Rattle.nc_types.specs.Id.{Id}
 use Rattle.nc_types.specs.declared.info.Info.{Info}
 use Rattle.nc_journal.specs.declared.event.Event.{Event}
-use Rattle.nc_journal.specs.declared.event.Event.TheVariants.{Parted}
+use Rattle.nc_journal.specs.declared.event.Event.TheVariants.{Left, Parted, Removed}
 use Rattle.nc_journal.specs.declared.word.LeftCause.{LeftCause}
 use Rattle.nc_journal.specs.declared.word.LeftCause.TheVariants.{Length, Expired, Spent}
 use Rattle.nc_journal.specs.declared.alert.AlertLine.{AlertLine}
@@ -17,16 +17,19 @@ use Rattle.nc_owner.specs.AlertLines.{OutLine}
 use Rattle.nc_owner.specs.Members.{has_member}
 use Rattle.nc_owner.specs.State.{Bench, bench_of, opened, exists}
 use Rattle.nc_owner.specs.Leave.{left_event, leavers, touched}
-use Rattle.nc_owner.specs.Poll.{freed_event, freed_events, free_slots}
+use Rattle.nc_owner.specs.Poll.{freed_event, free_slots}
 use Rattle.nc_owner.specs.Publish.{Polls, Outcome, late, stored, full as is_all, notices, answer, stamp, stored_status, store_bench, granted_events, asked, roomy, roomy_events, stored_events, leaving, lowest_slot, post_events, post_alerts, cleared_events, publish_outcome, publish_cleared, info_of}
 use Rattle.nc_owner.specs.Look.{found_on, looked_event, found_events, found_line, look_ready, look_events}
 use Rattle.nc_owner.specs.Fence.{raise_events}
-use Rattle.nc_owner.specs.OtherSteps.{touch_events_of, touched_of, names_of}
+use Rattle.nc_owner.specs.OtherSteps.{touch_events_of, touched_of}
+use Rattle.nc_owner.specs.Remove.{delete_events}
 use Rattle.nc_owner_laws.proofs.Fences.{raise_are}
-use Rattle.nc_reaper.specs.Reap.{Swept, state, swept, swept_all}
-use Rattle.nc_worker_state.specs.Incoming.{Incoming, TakesPacket, ClockReads, Reaps, Posts, Subscribes, Informs}
-use Rattle.nc_worker_state.specs.Owned.{Holding, StepPolls, fenced, owned_by, owned_in, order_of, member_of}
+use Rattle.nc_owner_laws.proofs.Sweeping.{deletion_told}
+use Rattle.nc_owner_laws.specs.Sweeping.{IsOfRemovals}
+use Rattle.nc_worker_state.specs.Incoming.{Incoming, TakesPacket}
+use Rattle.nc_worker_state.specs.Owned.{Holding, fenced, owned_by, order_of, member_of}
 use Rattle.nc_world_laws.proofs.Local.{all_append}
+use Rattle.nc_world_asks.proofs.Deleted.{delete_are}
 use Rattle.nc_world_edges.proofs.Standing.{IsUnanswering, IsEdgeless, AsksNoEdge}
 
 abbrev AreEdgeless : List Event → Type 0
@@ -66,12 +69,8 @@ less_publish polls from o s =
     (all_append IsEdgeless (touch_events_of o.chan s.row s.owner) (map (freed_event s.owner.desk.me) (free_slots polls.retired)) (less_touch o.chan s) (less_freed s.owner.desk.me (free_slots polls.retired)))
     (less_post (publish_outcome o polls s.row s.owner) from o polls (publish_cleared o polls s.row s.owner))
 
-less_swept : (names : List (List ℕ)) (x : Swept) → AreEdgeless x.events → AreEdgeless (fold swept x names).events
-less_swept [] x a = a
-less_swept (c ∷ names) x a = less_swept names (swept x c) (all_append IsEdgeless x.events (touch_events_of c x.row x.owner) a (less_touch c (record { owner = x.owner; row = x.row; counts = [] })))
-
-less_reap : (polls : StepPolls) (s : Holding) → AreEdgeless (owned_in polls Reaps s).events
-less_reap polls s = all_append IsEdgeless (swept_all s.row s.owner).events (freed_events s.owner.desk.me polls.reap) (less_swept (names_of s.owner) (state s.owner s.row []) tt) (less_freed s.owner.desk.me (free_slots polls.reap))
+less_delete : (c : List ℕ) (s : Holding) → AreEdgeless (delete_events c s.row s.owner)
+less_delete c s = delete_are IsEdgeless c s.row s.owner less_left (λ w last. tt)
 
 less_parted : (w from k : ℕ) (c : List ℕ) (b : Bool) → AreEdgeless (cond b (Parted w c from k ∷ []) [])
 less_parted w from k c true = (tt, tt)
@@ -100,7 +99,7 @@ less_line polls from (lines.LookAnswer number q floor found g slot) s plain = tt
 less_line polls from (lines.Notice c id g slot) s plain = tt
 less_line polls from (lines.Edge number k c fence) s plain = absurd plain
 less_line polls from (lines.EdgeAnswer number q floor last) s plain = tt
-less_line polls from (lines.Delete r c) s plain = tt
+less_line polls from (lines.Delete r c) s plain = less_delete c s
 less_line polls from (lines.DelAnswer r status info) s plain = tt
 less_line polls from (lines.Gone c subs) s plain = tt
 less_line polls from (lines.InfoAnswer r status info) s plain = tt
@@ -110,13 +109,11 @@ abbrev pub ComesEdgeless : Incoming → Type 0
 ComesEdgeless (TakesPacket from p) = AsksNoEdge p.line
 ComesEdgeless incoming = Unit {0}
 
-pub less_owned : (polls : StepPolls) (incoming : Incoming) (s : Holding) → ComesEdgeless incoming → AllByRecursion IsEdgeless (owned_in polls incoming s).events
-less_owned polls (TakesPacket from p) s plain = less_line polls.publish from p.line s plain
-less_owned polls (ClockReads t) s plain = tt
-less_owned polls Reaps s plain = less_reap polls s
-less_owned polls (Posts c body) s plain = tt
-less_owned polls (Subscribes k list start) s plain = tt
-less_owned polls (Informs c) s plain = tt
+-- what is removed in a reap tells no edge
+pub less_removed : (workers me : ℕ) (e : Event) → IsOfRemovals workers me e → IsEdgeless e
+less_removed workers me (Left w c id slot cause) p = tt
+less_removed workers me (Removed w c last cause) p = tt
+less_removed workers me e p = absurd p
 
 -- ---- alerts that answer no edge
 
@@ -156,15 +153,7 @@ unanswering_line polls from (lines.LookAnswer number q floor found g slot) s pla
 unanswering_line polls from (lines.Notice c id g slot) s plain = tt
 unanswering_line polls from (lines.Edge number k c fence) s plain = absurd plain
 unanswering_line polls from (lines.EdgeAnswer number q floor last) s plain = tt
-unanswering_line polls from (lines.Delete r c) s plain = tt
+unanswering_line polls from (lines.Delete r c) s plain = deletion_told (λ (a : OutLine). IsUnanswering a.line) c (λ members to. tt) from r s.row s.owner (λ status info is. tt)
 unanswering_line polls from (lines.DelAnswer r status info) s plain = tt
 unanswering_line polls from (lines.Gone c subs) s plain = tt
 unanswering_line polls from (lines.InfoAnswer r status info) s plain = tt
-
-pub unanswering_owned : (polls : StepPolls) (incoming : Incoming) (s : Holding) → ComesEdgeless incoming → AllByRecursion (λ (a : OutLine). IsUnanswering a.line) (owned_in polls incoming s).alerts
-unanswering_owned polls (TakesPacket from p) s plain = unanswering_line polls.publish from p.line s plain
-unanswering_owned polls (ClockReads t) s plain = tt
-unanswering_owned polls Reaps s plain = tt
-unanswering_owned polls (Posts c body) s plain = tt
-unanswering_owned polls (Subscribes k list start) s plain = tt
-unanswering_owned polls (Informs c) s plain = tt

@@ -11,7 +11,7 @@ use Rattle.nc_journal.specs.declared.alert.AlertLine.TheVariants as lines
 use Rattle.nc_owner.specs.AlertLines.{OutLine}
 use Rattle.nc_history.specs.Packets.{Packet, kind_of, pending, first_line, received, IsNext}
 use Rattle.nc_worker_state.specs.Setup.{Setup}
-use Rattle.nc_worker_state.specs.Incoming.{Incoming, TakesPacket, ClockReads, Reaps, Posts, Subscribes, Informs}
+use Rattle.nc_worker_state.specs.Incoming.{Incoming, TakesPacket, ClockReads, Reaps, Posts, Subscribes, Removes, Informs}
 use Rattle.nc_worker_state.specs.Deed.{next_after}
 use Rattle.nc_worker_state.specs.Owned.{line_polls}
 use Rattle.nc_worker_state.specs.Worker.{holding}
@@ -23,12 +23,12 @@ use Rattle.nc_world_laws.specs.WorldTheme.{IsWorldTheme}
 use Rattle.nc_world_laws.proofs.Local.{eq_of}
 use Rattle.nc_world_laws.proofs.Frames.{own_handled, handled_onto, input_untaken}
 use Rattle.nc_world_laws.proofs.Moving.{taken_right}
-use Rattle.nc_world_laws.proofs.Parts.{owns, serves, before, part, behind, rest, well, rest_untaken}
-use Rattle.nc_world_laws.proofs.Telling.{woven_made, told_made, deeds_do, deeds_make}
+use Rattle.nc_world_laws.proofs.Parts.{owns, serves, before, part, behind, rest, part_events, part_alerts, well, rest_untaken}
+use Rattle.nc_world_laws.proofs.Telling.{woven_part, told_made, deeds_do, deeds_make}
 use Rattle.nc_world_laws.proofs.WorldThemes.{world_theme_holds}
 use Rattle.nc_world_asks.proofs.Reaching.{ring_next}
 use Rattle.nc_world_edges.proofs.Standing.{EdgesStand, IsUnanswering, IsEdgeless, edgeless_onto, asks_stand}
-use Rattle.nc_world_edges.proofs.Edgeless.{ComesEdgeless, less_owned, unanswering_owned}
+use Rattle.nc_world_edges.proofs.Edgeless.{ComesEdgeless, less_line, less_removed, unanswering_line}
 use Rattle.nc_world_edges.proofs.Taking.{ask_onto, received_onto, line_is, line_stands}
 
 -- of each owner and each worker
@@ -52,6 +52,7 @@ module _ (setup : Setup) (is : IsSetup setup) (x : ℕ) (h : List Event) (world 
   opening_edgeless Reaps = tt
   opening_edgeless (Posts c body) = (tt, tt)
   opening_edgeless (Subscribes k list start) = (tt, tt)
+  opening_edgeless (Removes c) = (tt, tt)
   opening_edgeless (Informs c) = (tt, tt)
 
   behind_edgeless : (i : Incoming) → AllByRecursion IsEdgeless (behind setup x i world)
@@ -62,8 +63,11 @@ module _ (setup : Setup) (is : IsSetup setup) (x : ℕ) (h : List Event) (world 
 
   part_edgeless : (i : Incoming) → ComesEdgeless i → AllByRecursion IsEdgeless (part x i world)
   part_edgeless i plain =
-      woven_made IsEdgeless (λ (a : OutLine). IsUnanswering a.line) x (λ n a p. p) (world.workers x).next (owns x i world).events (owns x i world).alerts
-      (less_owned (polls_of x i world) i (holding x (seat x world)) plain) (unanswering_owned (polls_of x i world) i (holding x (seat x world)) plain)
+      let polls = (polls_of x i world).publish in
+      let s = holding x (seat x world) in
+      woven_part IsEdgeless (λ (a : OutLine). IsUnanswering a.line) x (λ n a p. p) (world.workers x).next (owns x i world)
+      (part_events setup is x i h world g IsEdgeless (λ from p e. less_line polls from p.line s (subst ComesEdgeless e plain)) (less_removed setup.workers x) (λ slot. tt))
+      (part_alerts setup is x i h world g (λ (a : OutLine). IsUnanswering a.line) (λ from p e. unanswering_line polls from p.line s (subst ComesEdgeless e plain)) (λ c subs to mine. tt))
 
   -- ---- something comes from outside
 
@@ -80,6 +84,7 @@ module _ (setup : Setup) (is : IsSetup setup) (x : ℕ) (h : List Event) (world 
   input_edgeless Reaps k = tt
   input_edgeless (Posts c body) k = tt
   input_edgeless (Subscribes k list start) comes = tt
+  input_edgeless (Removes c) k = tt
   input_edgeless (Informs c) k = tt
 
   -- the worker asked for what it had asked for

@@ -84,7 +84,7 @@ abbrev pub LineIs : (workers o w v : ℕ) → List Event → AlertLine → Type 
 LineIs workers o w v asks (lines.Edge number k c fence) = (owner_of workers c ≡ o) × (w ≡ v → HasEdgeAsk number k c fence asks)
 LineIs workers o w v asks line = Unit {0}
 
-pub line_is : (workers o w v x : ℕ) (h : List Event) (line : AlertLine) → o ≡ x → IsLineTo workers x line → IsNext v x line h → LineIs workers o w v (own w h) line
+pub line_is : (workers o w v x : ℕ) (h : List Event) (line : AlertLine) → o ≡ x → IsLineTo workers v x line → IsNext v x line h → LineIs workers o w v (own w h) line
 line_is workers o w v x h (lines.Edge number k c fence) e to next = (to ∙ sym e, λ same. subst (λ (z : ℕ). HasEdgeAsk number k c fence (own z h)) (sym same) (next_asked v x number k c fence h next))
 line_is workers o w v x h line e to next = tt
 

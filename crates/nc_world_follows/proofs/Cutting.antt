@@ -8,18 +8,17 @@ use Rattle.nc_journal.specs.declared.event.Event.{Event}
 use Rattle.nc_journal.specs.declared.event.Event.TheVariants.{Clock, Asked, Subscribed, Joined, Parted, Raised, Stored, Left, Looked, Edged, Granted, Freed, Removed, Took, Pending, Quiet}
 use Rattle.nc_journal.specs.declared.alert.AlertLine.{AlertLine}
 use Rattle.nc_journal.specs.declared.alert.AlertLine.TheVariants as lines
-use Rattle.nc_owner_laws.specs.Weave.{weave}
 use Rattle.nc_history.specs.Packets.{Packet, packet, kind_of}
-use Rattle.nc_history.specs.Steps.{AtEachStep, joined}
+use Rattle.nc_history.specs.Steps.{AtEachStep, AtEachStepOf, joined}
 use Rattle.nc_worker_state.specs.Setup.{Setup}
-use Rattle.nc_worker_state.specs.Incoming.{Incoming, TakesPacket, ClockReads, Reaps, Posts, Subscribes, Informs}
+use Rattle.nc_worker_state.specs.Incoming.{Incoming, TakesPacket, ClockReads, Reaps, Posts, Subscribes, Removes, Informs}
 use Rattle.nc_worker_state.specs.Deed.{Deed, told}
 use Rattle.nc_worker_state.specs.Spooled.{releases}
 use Rattle.nc_worker_state.specs.Owned.{owned}
-use Rattle.nc_worker_state.specs.Worker.{holding}
+use Rattle.nc_worker_state.specs.Worker.{holding, part_woven}
 use Rattle.nc_world.specs.World.{World, seat, handled_events, pending_in}
 use Rattle.nc_world.specs.Moves.{Move, Handles, Carries, Takes, Counts, Rests, counted, rested, taken_events, move_events, moved}
-use Rattle.nc_world.specs.Lines.{Line, Blank, Clocks, Reap, Carry, Take, Settle, Post, Poll, Inform, round, does, first_turn, turn_with, settle_moves, events_of, moves_of, lines_world, journal_of}
+use Rattle.nc_world.specs.Lines.{Line, Blank, Clocks, Reap, Carry, Take, Settle, Post, Poll, Remove, Inform, round, does, first_turn, turn_with, settle_moves, events_of, moves_of, lines_world, journal_of}
 use Rattle.nc_world.specs.OwnersRule.{IsToldOwner, IsOwnersStep, IsNoOwners, AreNoOwners, IsStepOf, IsStepOfFirst, StepAt}
 use Rattle.nc_world.specs.Reached.{IsSetup, IsInput, IsMove, Reached, Moves}
 use Rattle.nc_world.specs.Laws.{CanMove}
@@ -31,6 +30,7 @@ use Rattle.nc_world_laws.proofs.Parts.{serves, part, rest, rest_all}
 use Rattle.nc_world_laws.proofs.Serving.{served_well}
 use Rattle.nc_world_laws.proofs.Taking.{first_pending}
 use Rattle.nc_world_holds.proofs.Counting.{reached_counts}
+use Rattle.nc_world_follows.specs.Fitting.{AreFit}
 use Rattle.nc_world_follows.specs.Laws.{IsBusy, FitLinesReach, OwnersRuleHolds}
 use Rattle.nc_world_follows.proofs.Busy.{reached_is_busy}
 use Rattle.nc_world_follows.proofs.Fitting.{IsTurn, FirstCan, first_can, round_turns, line_can}
@@ -76,7 +76,7 @@ module _ (setup : Setup) (is : IsSetup setup) (h : List Event) (world : World) (
   owners_step w incoming es same = record {
     owner = holding w (seat w world);
     told = told_owner w;
-    same = same ∙ ap (λ (n : ℕ → ℕ). weave w n (owned incoming (holding w (seat w world))).events (owned incoming (holding w (seat w world))).alerts) (λ i to. good.follow w to i);
+    same = same ∙ ap (λ (n : ℕ → ℕ). part_woven w n (owned incoming (holding w (seat w world)))) (λ i to. good.follow w to i);
   }
 
   -- the releases of a worker that keeps only what it uses
@@ -102,13 +102,13 @@ module _ (setup : Setup) (is : IsSetup setup) (h : List Event) (world : World) (
     step_of from n (lines.Edge number k c fence) = owners_step w (TakesPacket from (packet n (lines.Edge number k c fence))) _ (unreleased w _ _)
     step_of from n (lines.Join c k) = owners_step w (TakesPacket from (packet n (lines.Join c k))) _ (unreleased w _ _)
     step_of from n (lines.Part c k) = owners_step w (TakesPacket from (packet n (lines.Part c k))) _ (unreleased w _ _)
+    step_of from n (lines.Delete r c) = owners_step w (TakesPacket from (packet n (lines.Delete r c))) _ (unreleased w _ _)
     step_of from n (lines.Info r c) = owners_step w (TakesPacket from (packet n (lines.Info r c))) _ (unreleased w _ _)
     step_of from n (lines.PubAnswer r status info full) = others_step (TakesPacket from (packet n (lines.PubAnswer r status info full))) (world.workers w).next
     step_of from n (lines.LookAnswer number q floor found g slot) = others_step (TakesPacket from (packet n (lines.LookAnswer number q floor found g slot))) (world.workers w).next
     step_of from n (lines.Notice c id g slot) = others_step (TakesPacket from (packet n (lines.Notice c id g slot))) (world.workers w).next
     step_of from n (lines.InfoAnswer r status info) = others_step (TakesPacket from (packet n (lines.InfoAnswer r status info))) (world.workers w).next
     step_of from n (lines.EdgeAnswer number q floor last) = others_step (TakesPacket from (packet n (lines.EdgeAnswer number q floor last))) (world.workers w).next
-    step_of from n (lines.Delete r c) = others_step (TakesPacket from (packet n (lines.Delete r c))) (world.workers w).next
     step_of from n (lines.DelAnswer r status info) = others_step (TakesPacket from (packet n (lines.DelAnswer r status info))) (world.workers w).next
     step_of from n (lines.Gone c subs) = others_step (TakesPacket from (packet n (lines.Gone c subs))) (world.workers w).next
 
@@ -123,6 +123,7 @@ module _ (setup : Setup) (is : IsSetup setup) (h : List Event) (world : World) (
     input_cut Reaps i = cut_inner (StepAt setup) (inner_step setup) (rest setup w Reaps world) h (rest_inner Reaps)
     input_cut (Posts c body) i = cut_step (StepAt setup) (inner_step setup) _ (told w (world.workers w).next (serves setup w (Posts c body) world).deeds) h (told_inner (Posts c body) (world.workers w).next) (others_step (Posts c body) (world.workers w).next)
     input_cut (Subscribes k list start) i = cut_step (StepAt setup) (inner_step setup) _ (told w (world.workers w).next (serves setup w (Subscribes k list start) world).deeds) h (told_inner (Subscribes k list start) (world.workers w).next) (others_step (Subscribes k list start) (world.workers w).next)
+    input_cut (Removes c) i = cut_step (StepAt setup) (inner_step setup) _ (told w (world.workers w).next (serves setup w (Removes c) world).deeds) h (told_inner (Removes c) (world.workers w).next) (others_step (Removes c) (world.workers w).next)
     input_cut (Informs c) i = cut_step (StepAt setup) (inner_step setup) _ (told w (world.workers w).next (serves setup w (Informs c) world).deeds) h (told_inner (Informs c) (world.workers w).next) (others_step (Informs c) (world.workers w).next)
 
   counts_cut : (n : ℕ) → AtEachStep (StepAt setup) h (counted n)
@@ -218,17 +219,22 @@ line_tail setup (Take w v) world = tt
 line_tail setup (Settle n) world = all_tail (settle_moves setup n (round setup.workers) world ++ Counts ∷ []) (begins_more (settle_moves setup n (round setup.workers) world) (Counts ∷ []) (settle_begins setup n (round setup.workers) world (round_turns setup)) tt)
 line_tail setup (Post w c body) world = tt
 line_tail setup (Poll w k list start) world = tt
+line_tail setup (Remove w c) world = tt
 line_tail setup (Inform w c) world = tt
 
-module _ (setup : Setup) (is : IsSetup setup) where
-  moves_cut : (ms : List Move) (h : List Event) (world : World) → Reached setup h world → CanMove setup ms h world → TailBegins ms → AtEachStep (StepAt setup) h (events_of setup ms world)
+-- what holds at each step of each move that can be made holds at each step of a script's journal
+module _ (setup : Setup) (P : List Event → Event → List Event → Type 0) (each : (m : Move) (h : List Event) (world : World) → Reached setup h world → IsMove setup h m → AtEachStep P h (move_events setup m world)) where
+  moves_cut : (ms : List Move) (h : List Event) (world : World) → Reached setup h world → CanMove setup ms h world → TailBegins ms → AtEachStep P h (events_of setup ms world)
   moves_cut [] h world r can b = tt
-  moves_cut (m ∷ ms) h world r can b = cut_append (StepAt setup) (move_events setup m world) (events_of setup ms (moved setup m world)) h (all_cut setup ms (moved setup m world) b) (move_cut setup is h world r m can.0)
+  moves_cut (m ∷ ms) h world r can b = cut_append P (move_events setup m world) (events_of setup ms (moved setup m world)) h (all_cut setup ms (moved setup m world) b) (each m h world r can.0)
       (moves_cut ms (onto (move_events setup m world) h) (moved setup m world) (Moves h world m r can.0) can.1 (all_tail ms b))
 
+  pub lines_cut : FitLinesReach → (lines : List Line) → AreFit setup lines → AtEachStepOf P (journal_of setup lines)
+  lines_cut reach [] f = tt
+  lines_cut reach (line ∷ lines) f = (
+    lines_cut reach lines f.0,
+    moves_cut (moves_of setup line (lines_world setup lines)) (joined (journal_of setup lines)) (lines_world setup lines) (reach setup lines f.0) (line_can setup line (joined (journal_of setup lines)) (lines_world setup lines) f.1) (line_tail setup line (lines_world setup lines)),
+  )
+
 pub owners_rule_holds : FitLinesReach → OwnersRuleHolds
-owners_rule_holds reach setup [] is f = tt
-owners_rule_holds reach setup (line ∷ lines) is f = (
-  owners_rule_holds reach setup lines is f.0,
-  moves_cut setup is (moves_of setup line (lines_world setup lines)) (joined (journal_of setup lines)) (lines_world setup lines) (reach setup lines f.0) (line_can setup line (joined (journal_of setup lines)) (lines_world setup lines) f.1) (line_tail setup line (lines_world setup lines)),
-)
+owners_rule_holds reach setup lines is f = lines_cut setup (StepAt setup) (λ m h world r i. move_cut setup is h world r m i) reach lines f

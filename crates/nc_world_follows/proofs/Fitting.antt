@@ -8,7 +8,7 @@ use Rattle.nc_history.specs.Steps.{joined}
 use Rattle.nc_worker_state.specs.Setup.{Setup}
 use Rattle.nc_world.specs.World.{World, pending_in}
 use Rattle.nc_world.specs.Moves.{Move, Handles, Carries, Takes, Counts, Rests, move_events, moved}
-use Rattle.nc_world.specs.Lines.{Line, Blank, Clocks, Reap, Carry, Take, Settle, Post, Poll, Inform, below, pairs, round, does, first_turn, turn_with, settle_moves, moves_of, lines_world, journal_of}
+use Rattle.nc_world.specs.Lines.{Line, Blank, Clocks, Reap, Carry, Take, Settle, Post, Poll, Remove, Inform, below, pairs, round, does, first_turn, turn_with, settle_moves, moves_of, lines_world, journal_of}
 use Rattle.nc_world.specs.Reached.{IsMove}
 use Rattle.nc_world.specs.Laws.{CanMove, AreLines}
 use Rattle.nc_world_laws.proofs.Local.{all_append, all_of}
@@ -99,6 +99,7 @@ line_can setup (Take w v) h world i = (i, (tt, tt))
 line_can setup (Settle n) h world i = then_counts setup (settle_moves setup n (round setup.workers) world) h world (settle_can setup n (round setup.workers) h world (round_turns setup))
 line_can setup (Post w c body) h world i = ((i, tt), (tt, tt))
 line_can setup (Poll w k list start) h world i = (i, (tt, tt))
+line_can setup (Remove w c) h world i = ((i, tt), (tt, tt))
 line_can setup (Inform w c) h world i = ((i, tt), (tt, tt))
 
 pub are_lines : (setup : Setup) (lines : List Line) → AreFit setup lines → AreLines setup lines

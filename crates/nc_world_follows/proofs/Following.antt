@@ -9,17 +9,17 @@ use Rattle.nc_journal.specs.declared.event.Event.TheVariants.{Clock, Took}
 use Rattle.nc_history.specs.Packets.{Packet, kind_of, is_pair, pending, made_count, took_count}
 use Rattle.nc_history.specs.Steps.{joined}
 use Rattle.nc_worker_state.specs.Setup.{Setup}
-use Rattle.nc_worker_state.specs.Incoming.{Incoming, TakesPacket, ClockReads, Reaps, Posts, Subscribes, Informs}
+use Rattle.nc_worker_state.specs.Incoming.{Incoming, TakesPacket, ClockReads, Reaps, Posts, Subscribes, Removes, Informs}
 use Rattle.nc_worker_state.specs.Deed.{Deed, told}
 use Rattle.nc_worker_state.specs.Spooled.{releases}
 use Rattle.nc_worker_state.specs.Worker.{with_at}
 use Rattle.nc_world.specs.World.{World, sum_pairs, pending_in, handled_events, handled}
 use Rattle.nc_world.specs.Moves.{Move, Handles, Carries, Takes, Counts, Rests, ring_size, counted, rested, carried_one, carried, taken_events, taken, move_events, moved}
-use Rattle.nc_world.specs.Lines.{Line, Blank, Clocks, Reap, Carry, Take, Settle, Post, Poll, Inform, is_some_packet, does, first_turn, turn_with, settle_moves, round, events_of, world_of, line_events, line_world, lines_world, journal_of}
+use Rattle.nc_world.specs.Lines.{Line, Blank, Clocks, Reap, Carry, Take, Settle, Post, Poll, Remove, Inform, is_some_packet, does, first_turn, turn_with, settle_moves, round, events_of, world_of, line_events, line_world, lines_world, journal_of}
 use Rattle.nc_world.specs.Reached.{IsSetup, IsInput, IsMove, Reached, Moves}
 use Rattle.nc_world.specs.Laws.{CanMove}
 use Rattle.nc_world.specs.OwnersRule.{IsReapOf}
-use Rattle.nc_world.specs.Follows.{pending_count, Carried, one_carried, can, IsStepFrom, TakesFirst, IsSame, Stops, IsMoveOf, Unless, MayMove, Turns, Settles, Ends, IsPost, IsInform, IsSegment, FollowsTo}
+use Rattle.nc_world.specs.Follows.{pending_count, Carried, one_carried, can, IsStepFrom, TakesFirst, IsSame, Stops, IsMoveOf, Unless, MayMove, Turns, Settles, Ends, IsPost, IsRemove, IsInform, IsSegment, FollowsTo}
 use Rattle.nc_world_laws.specs.Good.{Good}
 use Rattle.nc_world_laws.proofs.Local.{eqb_self, eq_of}
 use Rattle.nc_world_laws.proofs.Numbers.{posted_in_turn}
@@ -292,6 +292,8 @@ module _ (setup : Setup) (is : IsSetup setup) where
   segment (Post w d body) h world c r i same = input_line w (Posts d body) (IsPost setup w d body) h world c r (i, tt) same
       (record { r = (world.workers w).desk.requests; n = (world.workers w).next _; same = unreleased w _ h world r _ })
   segment (Poll w n list start) h world c r i same = input_line w (Subscribes n list start) _ h world c r i same (refl, told_inner setup is h world r w (Subscribes n list start) (world.workers w).next)
+  segment (Remove w d) h world c r i same = input_line w (Removes d) (IsRemove setup w d) h world c r (i, tt) same
+      (record { r = (world.workers w).desk.requests; n = (world.workers w).next _; same = unreleased w _ h world r _ })
   segment (Inform w d) h world c r i same = input_line w (Informs d) (IsInform setup w d) h world c r (i, tt) same
       (record { r = (world.workers w).desk.requests; n = (world.workers w).next _; same = unreleased w _ h world r _ })
 

@@ -2,6 +2,7 @@
 use Rattle.std.specs.Prelude.{◌≡◌, ℕ, List, []}
 use Rattle.nc_journal.specs.declared.event.Event.{Event}
 use Rattle.nc_history.specs.Steps.{joined}
+use Rattle.nc_history.specs.Ending.{IsEndingRule}
 use Rattle.nc_worker_state.specs.Setup.{Setup}
 use Rattle.nc_worker_state.specs.Spooled.{releases}
 use Rattle.nc_world.specs.World.{World}
@@ -25,6 +26,10 @@ ReachedIsBusy = (setup : Setup) (h : List Event) (world : World) → Reached set
 -- the owners' steps stand in the journal of a script
 abbrev pub OwnersRuleHolds : Type 0
 OwnersRuleHolds = (setup : Setup) (lines : List Line) → IsSetup setup → AreFit setup lines → IsOwnersRule setup (journal_of setup lines)
+
+-- in it subscribers are ended by deletions as their workers take the alerts that tell so
+abbrev pub EndingRuleHolds : Type 0
+EndingRuleHolds = (setup : Setup) (lines : List Line) → IsSetup setup → AreFit setup lines → IsEndingRule (journal_of setup lines)
 
 -- the journal of a script follows it
 abbrev pub JournalFollows : Type 0

@@ -1,5 +1,5 @@
 //! The journal of a script's lines.
-ghost use Rattle.nc_world_follows.specs.Laws.{FitLinesReach, ReachedIsBusy, OwnersRuleHolds, JournalFollows};
+ghost use Rattle.nc_world_follows.specs.Laws.{FitLinesReach, ReachedIsBusy, OwnersRuleHolds, EndingRuleHolds, JournalFollows};
 
 use nc_world::histories::lines_reach;
 
@@ -18,6 +18,13 @@ pub fn reached_is_busy()
 /// Behind each alert that is taken stands what the owner that the journal tells does with it.
 pub fn owners_rule_holds()
     ensures { OwnersRuleHolds }
+{
+    fit_lines_reach();
+}
+
+/// Subscribers are ended by a deletion where their workers take the alerts that tell so.
+pub fn ending_rule_holds()
+    ensures { EndingRuleHolds }
 {
     fit_lines_reach();
 }

@@ -26,15 +26,18 @@ use Rattle.nc_owner.specs.Publish.{Polls, Outcome, late, full, stored, granted_e
 use Rattle.nc_owner.specs.Look.{found_on, looked_event, found_events, found_holds, look_ready}
 use Rattle.nc_owner.specs.Fence.{raise_events}
 use Rattle.nc_owner.specs.Edge.{edged_event}
-use Rattle.nc_owner.specs.OtherSteps.{touch_events_of, touch_after, parted_events, names_of}
+use Rattle.nc_owner.specs.OtherSteps.{touch_events_of, touch_after, parted_events}
+use Rattle.nc_owner.specs.Remove.{delete_events}
 use Rattle.nc_owner_laws.specs.HoldsKept.{one_less}
 use Rattle.nc_owner_laws.specs.Kinds.{IsOfOwner}
+use Rattle.nc_owner_laws.specs.Reaping.{steps_woven, next_behind}
+use Rattle.nc_owner_laws.specs.Sweeping.{IsOfRemovals, IsLoss, SweepsAre}
 use Rattle.nc_owner_laws.specs.Weave.{weave, makes, numbered}
 use Rattle.nc_owner_laws.proofs.Fences.{raised_so}
-use Rattle.nc_reaper.specs.Reap.{swept_all, swept, Swept}
+use Rattle.nc_reaper.specs.Reap.{Step}
 use Rattle.nc_history.specs.Packets.{Packet}
 use Rattle.nc_worker_state.specs.Setup.{Setup}
-use Rattle.nc_worker_state.specs.Incoming.{Incoming, TakesPacket, ClockReads, Reaps, Posts, Subscribes, Informs}
+use Rattle.nc_worker_state.specs.Incoming.{Incoming, TakesPacket, ClockReads, Reaps, Posts, Subscribes, Removes, Informs}
 use Rattle.nc_worker_state.specs.Deed.{Deed, Does, Makes, told, next_after}
 use Rattle.nc_worker_state.specs.Owned.{Holding, Owned, StepPolls, order_of, looked_by, edged_by, fenced, behind_fence, owned_in, owned_by, step_polls}
 use Rattle.nc_worker_state.specs.Desk.{Desk, opening}
@@ -44,16 +47,18 @@ use Rattle.nc_world.specs.Moves.{Move, Handles, Carries, Takes, Counts, Rests, c
 use Rattle.nc_world.specs.Reached.{IsSetup, Reached, Begins, Moves}
 use Rattle.nc_world_laws.specs.Good.{Good}
 use Rattle.nc_world_laws.specs.Kinds.{AreDeeds}
-use Rattle.nc_world_laws.proofs.Local.{eq_of, either}
+use Rattle.nc_world_laws.proofs.Local.{eq_of, either, all_of}
 use Rattle.nc_world_laws.proofs.Moving.{reached_is_good}
 use Rattle.nc_world_laws.proofs.Owning.{of_owned}
 use Rattle.nc_world_laws.proofs.Parts.{owns, serves, before, part, behind}
 use Rattle.nc_world_laws.proofs.Serving.{served_well}
 use Rattle.nc_world_laws.proofs.Stepping.{is_me}
+use Rattle.nc_world_laws.proofs.Telling.{steps_made}
 use Rattle.nc_world_holds.specs.Balance.{one_if, IsBalanced}
 use Rattle.nc_world_holds.specs.Counts.{ReachedCounts}
 use Rattle.nc_world_holds.proofs.Holding.{move_holds, reached_holds}
 use Rattle.nc_world_holds.proofs.Summing.{released_within}
+use Rattle.nc_world_holds.proofs.Removals.{sweeps_are, IsUngranted, removal_ungranted, deletion_ungranted}
 
 -- ---- how many of some events are so
 
@@ -124,6 +129,11 @@ module _ (me k : ℕ) where
   none_parted : (b : Bool) (v : ℕ) (c : List ℕ) (m : Member) → Grants (cond b (Parted v c m.from m.k ∷ []) []) ≡ 0
   none_parted true v c m = refl
   none_parted false v c m = refl
+
+  none_granted : (es : List Event) → AllByRecursion IsUngranted es → Grants es ≡ 0
+  none_granted [] un = refl
+  none_granted (Granted v g slot to ∷ es) un = absurd un.0
+  none_granted (e ∷ es) un = none_granted es un.1
 
   none_touched : (c : List ℕ) (s : Holding) → Grants (touch_events_of c s.row s.owner) ≡ 0
   none_touched c s = none_left s.owner.desk.me c Expired (leavers (is_expired s.owner.desk.clock) (bench_of c s.row s.owner))
@@ -221,22 +231,19 @@ module _ (me k : ℕ) where
   asked_adds polls from (lines.LookAnswer number q floor found g slot) s is = adds_none s.counts [] refl
   asked_adds polls from (lines.Notice c id g slot) s is = adds_none s.counts [] refl
   asked_adds polls from (lines.EdgeAnswer number q floor last) s is = adds_none s.counts [] refl
-  asked_adds polls from (lines.Delete r c) s is = adds_none s.counts [] refl
+  asked_adds polls from (lines.Delete r c) s is = adds_none s.counts (delete_events c s.row s.owner) (none_granted (delete_events c s.row s.owner) (deletion_ungranted c s.row s.owner))
   asked_adds polls from (lines.DelAnswer r status info) s is = adds_none s.counts [] refl
   asked_adds polls from (lines.Gone c subs) s is = adds_none s.counts [] refl
   asked_adds polls from (lines.InfoAnswer r status info) s is = adds_none s.counts [] refl
 
-  none_swept : (names : List (List ℕ)) (t : Swept) → Grants t.events ≡ 0 → Grants (fold swept t names).events ≡ 0
-  none_swept [] t none = none
-  none_swept (c ∷ names) t none = none_swept names (swept t c) (behind_none t.events (touch_events_of c t.row t.owner) 0 none (none_left t.owner.desk.me c Expired (leavers (is_expired t.owner.desk.clock) (bench_of c t.row t.owner))))
-
-  pub owned_adds : (polls : StepPolls) (incoming : Incoming) (s : Holding) → s.owner.desk.me ≡ me → Adds s.counts (owned_in polls incoming s).after.counts (owned_in polls incoming s).events
-  owned_adds polls (TakesPacket from p) s is = asked_adds polls.publish from p.line s is
-  owned_adds polls (ClockReads t) s is = adds_none s.counts [] refl
-  owned_adds polls Reaps s is = adds_none s.counts _ (behind_none (swept_all s.row s.owner).events (map (freed_event s.owner.desk.me) (free_slots polls.reap)) 0 (none_swept (names_of s.owner) _ refl) (none_freed s.owner.desk.me (free_slots polls.reap)))
-  owned_adds polls (Posts c body) s is = adds_none s.counts [] refl
-  owned_adds polls (Subscribes n list start) s is = adds_none s.counts [] refl
-  owned_adds polls (Informs c) s is = adds_none s.counts [] refl
+  pub last_adds : (polls : StepPolls) (incoming : Incoming) (s : Holding) → s.owner.desk.me ≡ me → Adds s.counts (owned_in polls incoming s).last.after.counts (owned_in polls incoming s).last.events
+  last_adds polls (TakesPacket from p) s is = asked_adds polls.publish from p.line s is
+  last_adds polls (ClockReads t) s is = adds_none s.counts [] refl
+  last_adds polls Reaps s is = adds_none s.counts _ (none_freed s.owner.desk.me (free_slots polls.reap))
+  last_adds polls (Posts c body) s is = adds_none s.counts [] refl
+  last_adds polls (Subscribes n list start) s is = adds_none s.counts [] refl
+  last_adds polls (Removes c) s is = adds_none s.counts [] refl
+  last_adds polls (Informs c) s is = adds_none s.counts [] refl
 
   -- ---- the other parts of a step
 
@@ -250,6 +257,12 @@ module _ (me k : ℕ) where
   weave_grants w next (Granted v g slot to ∷ es) (a ∷ alerts) = ap (λ n. cond ((v == me) && (slot == k)) (n + 1) n) (weave_grants w (numbered next a.to) es alerts)
   weave_grants w next (e ∷ es) alerts = ap (λ n. cond (grants_slot me k e) (n + 1) n) (weave_grants w next es alerts)
 
+  -- sweeps grant nothing
+  sweeps_grant : (workers w : ℕ) (next : ℕ → ℕ) (steps : List Step) → SweepsAre workers w steps → Grants (steps_woven w next steps) ≡ 0
+  sweeps_grant workers w next steps are = none_granted (steps_woven w next steps)
+      (steps_made IsUngranted (λ a. IsLoss workers w a.line) w (λ n a q. tt) next steps
+      (all_of (λ x. AllByRecursion (IsOfRemovals workers w) x.events) (λ x. AllByRecursion IsUngranted x.events) (λ x a. all_of (IsOfRemovals workers w) IsUngranted (removal_ungranted workers w) x.events a) steps are.events) are.alerts)
+
   told_grants : (workers w : ℕ) (next : ℕ → ℕ) (deeds : List Deed) → AreDeeds workers w deeds → Grants (told w next deeds) ≡ 0
   told_grants workers w next [] d = refl
   told_grants workers w next (Does (Granted v g slot to) ∷ deeds) d = absurd d.0
@@ -262,6 +275,7 @@ module _ (me k : ℕ) where
   opening_grants setup w Reaps d = refl
   opening_grants setup w (Posts c body) d = refl
   opening_grants setup w (Subscribes n list start) d = refl
+  opening_grants setup w (Removes c) d = refl
   opening_grants setup w (Informs c) d = refl
 
   -- what another owner does grants none of its slots
@@ -354,20 +368,23 @@ module _ (setup : Setup) (is : IsSetup setup) where
     es = handled_events setup w incoming world
 
     abbrev mid : ℕ → List ℕ
-    mid = with_at world.counts w (owns w incoming world).after.counts
+    mid = with_at world.counts w (owns w incoming world).last.after.counts
 
     -- all grants of a step are the owner's
-    grants_of : (o s : ℕ) → count (grants_slot o s) es ≡ count (grants_slot o s) (owns w incoming world).events
+    grants_of : (o s : ℕ) → count (grants_slot o s) es ≡ count (grants_slot o s) (owns w incoming world).last.events
     grants_of o s =
         let first = before setup w incoming world in
         let second = part w incoming world in
         let third = behind setup w incoming world in
+        let sweeps = (owns w incoming world).sweeps in
         omega (
           arith,
           count_append (grants_slot o s) (first ++ second) third,
           count_append (grants_slot o s) first second,
           opening_grants o s setup w incoming (world.workers w).desk,
-          weave_grants o s w (world.workers w).next (owns w incoming world).events (owns w incoming world).alerts,
+          count_append (grants_slot o s) (steps_woven w (world.workers w).next sweeps) (weave w (next_behind (world.workers w).next sweeps) (owns w incoming world).last.events (owns w incoming world).last.alerts),
+          sweeps_grant o s setup.workers w (world.workers w).next sweeps (sweeps_are setup.workers w (step_polls incoming (holding w (seat w world))) incoming (holding w (seat w world)) me (g.owns w)),
+          weave_grants o s w (next_behind (world.workers w).next sweeps) (owns w incoming world).last.events (owns w incoming world).last.alerts,
           told_grants o s setup.workers w (next_after (world.workers w).next second) (serves setup w incoming world).deeds well,
         )
 
@@ -375,22 +392,22 @@ module _ (setup : Setup) (is : IsSetup setup) where
     mid_counts : (o s : ℕ) → s < setup.slots → slice_index (mid o) s ≡ slice_index (world.counts o) s + count (grants_slot o s) es
     mid_counts o s lt = by (o == w) refl
       where
-        of : AllByRecursion (IsOfOwner w) (owns w incoming world).events
-        of = of_owned w (step_polls incoming (holding w (seat w world))) incoming (holding w (seat w world)) me
+        of : AllByRecursion (IsOfOwner w) (owns w incoming world).last.events
+        of = (of_owned setup.workers w (step_polls incoming (holding w (seat w world))) incoming (holding w (seat w world)) me (g.owns w)).1
 
         turned : (a b : ℕ) → (a == b) ≡ (b == a)
         turned a b = grind (arith, nat_tests)
 
-        by : (b : Bool) → (o == w) ≡ b → slice_index (cond b (owns w incoming world).after.counts (world.counts o)) s ≡ slice_index (world.counts o) s + count (grants_slot o s) es
-        by true e = subst (λ (n : ℕ). slice_index (owns w incoming world).after.counts s ≡ slice_index (world.counts n) s + count (grants_slot n s) es) (sym (eq_of o w e))
-            ((owned_adds w s (step_polls incoming (holding w (seat w world))) incoming (holding w (seat w world)) me).each (subst (λ (n : ℕ). s < n) (sym (k.long w)) lt) ∙ ap (λ n. slice_index (world.counts w) s + n) (sym (grants_of w s)))
-        by false e = omega (arith, grants_of o s, others_grant o s w (owns w incoming world).events (turned w o ∙ e) of)
+        by : (b : Bool) → (o == w) ≡ b → slice_index (cond b (owns w incoming world).last.after.counts (world.counts o)) s ≡ slice_index (world.counts o) s + count (grants_slot o s) es
+        by true e = subst (λ (n : ℕ). slice_index (owns w incoming world).last.after.counts s ≡ slice_index (world.counts n) s + count (grants_slot n s) es) (sym (eq_of o w e))
+            ((last_adds w s (step_polls incoming (holding w (seat w world))) incoming (holding w (seat w world)) me).each (subst (λ (n : ℕ). s < n) (sym (k.long w)) lt) ∙ ap (λ n. slice_index (world.counts w) s + n) (sym (grants_of w s)))
+        by false e = omega (arith, grants_of o s, others_grant o s w (owns w incoming world).last.events (turned w o ∙ e) of)
 
     mid_long : (o : ℕ) → length (mid o) ≡ setup.slots
     mid_long o = by (o == w)
       where
-        by : (b : Bool) → length (cond b (owns w incoming world).after.counts (world.counts o)) ≡ setup.slots
-        by true = (owned_adds w 0 (step_polls incoming (holding w (seat w world))) incoming (holding w (seat w world)) me).long ∙ k.long w
+        by : (b : Bool) → length (cond b (owns w incoming world).last.after.counts (world.counts o)) ≡ setup.slots
+        by true = (last_adds w 0 (step_polls incoming (holding w (seat w world))) incoming (holding w (seat w world)) me).long ∙ k.long w
         by false = k.long o
 
     -- where the holds are balanced after the step, what it gives back was there

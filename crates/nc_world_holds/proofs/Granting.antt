@@ -1,6 +1,6 @@
 -- What an owner's step grants to a worker is what the alerts that it makes for the worker carry.
 use Rattle.std.proofs.Common.{◌≡◌, ℕ, ◌+◌, Bool, true, false, cond, List, [], ◌∷◌, ◌++◌, Option, Some, None, refl, sym, ap, ◌∙◌, arith, map}
-use Rattle.std.specs.Prelude.{◌==◌, ◌&&◌, fold}
+use Rattle.std.specs.Prelude.{◌==◌, ◌&&◌}
 use Rattle.std.specs.List.{AllByRecursion}
 use Rattle.std.proofs.lemmas.Bool.Decides.{nat_tests}
 use Rattle.nc_types.specs.Id.{Id}
@@ -25,16 +25,17 @@ use Rattle.nc_owner.specs.Publish.{Polls, Outcome, late, full, stored, notices, 
 use Rattle.nc_owner.specs.Look.{found_on, looked_event, found_events, found_line, look_ready}
 use Rattle.nc_owner.specs.Fence.{raise_events}
 use Rattle.nc_owner.specs.Edge.{edged_event, edge_line}
-use Rattle.nc_owner.specs.OtherSteps.{touch_events_of, touch_after, touched_of, parted_events, names_of}
+use Rattle.nc_owner.specs.OtherSteps.{touch_events_of, touch_after, touched_of, parted_events}
+use Rattle.nc_owner.specs.Remove.{delete_events, delete_alerts}
 use Rattle.nc_owner_laws.specs.Kinds.{IsOfOwner}
 use Rattle.nc_owner_laws.specs.Weave.{weave, makes, numbered}
 use Rattle.nc_owner_laws.proofs.Fences.{raised_so}
-use Rattle.nc_reaper.specs.Reap.{swept_all, swept, Swept}
 use Rattle.nc_history.specs.Packets.{Packet, packet, lines_of}
-use Rattle.nc_worker_state.specs.Incoming.{Incoming, TakesPacket, ClockReads, Reaps, Posts, Subscribes, Informs}
+use Rattle.nc_worker_state.specs.Incoming.{Incoming, TakesPacket, ClockReads, Reaps, Posts, Subscribes, Removes, Informs}
 use Rattle.nc_worker_state.specs.Owned.{Holding, Owned, StepPolls, order_of, looked_by, edged_by, fenced, behind_fence, owned_in, owned_by}
 use Rattle.nc_worker_state.specs.Worker.{sent_to}
 use Rattle.nc_world_holds.specs.Balance.{one_if, carries, carried_by}
+use Rattle.nc_world_holds.proofs.Removals.{deletion_tells, IsUngranted, deletion_ungranted}
 
 module _ (test : ℕ → ℕ → Bool) (x : ℕ) where
   -- how many grants to the worker are among some events, and how many holds alerts to it carry
@@ -79,6 +80,19 @@ module _ (test : ℕ → ℕ → Bool) (x : ℕ) where
 
   behind_none : (front es : List Event) (n : ℕ) → grants_to front ≡ 0 → grants_to es ≡ n → grants_to (front ++ es) ≡ n
   behind_none front es n a b = omega (arith, a, b, grants_append front es)
+
+  none_granted : (es : List Event) → AllByRecursion IsUngranted es → grants_to es ≡ 0
+  none_granted [] un = refl
+  none_granted (Granted v g slot to ∷ es) un = absurd un.0
+  none_granted (e ∷ es) un = none_granted es un.1
+
+  none_carried : (alerts : List OutLine) → AllByRecursion (λ a. carries test a.line ≡ 0) alerts → carried_out alerts ≡ 0
+  none_carried [] none = refl
+  none_carried (a ∷ alerts) none = by (x == a.to) (none_carried alerts none.1)
+    where
+      by : (b : Bool) → carried_out alerts ≡ 0 → cond b (carries test a.line) 0 + carried_out alerts ≡ 0
+      by true others = omega (arith, none.0, others)
+      by false others = omega (arith, others)
 
   none_touched : (c : List ℕ) (s : Holding) → grants_to (touch_events_of c s.row s.owner) ≡ 0
   none_touched c s = none_left s.owner.desk.me c Expired (leavers (is_expired s.owner.desk.clock) (bench_of c s.row s.owner))
@@ -170,23 +184,22 @@ module _ (test : ℕ → ℕ → Bool) (x : ℕ) where
   asked_matches polls from (lines.LookAnswer number q floor found g slot) s = refl
   asked_matches polls from (lines.Notice c id g slot) s = refl
   asked_matches polls from (lines.EdgeAnswer number q floor last) s = refl
-  asked_matches polls from (lines.Delete r c) s = refl
+  asked_matches polls from (lines.Delete r c) s =
+      none_carried (delete_alerts from r c s.row s.owner) (deletion_tells (λ a. carries test a.line ≡ 0) (λ to d subs. refl) (λ to n status info. refl) from r c s.row s.owner)
+      ∙ sym (none_granted (delete_events c s.row s.owner) (deletion_ungranted c s.row s.owner))
   asked_matches polls from (lines.DelAnswer r status info) s = refl
   asked_matches polls from (lines.Gone c subs) s = refl
   asked_matches polls from (lines.InfoAnswer r status info) s = refl
 
-  -- a reap grants nothing
-  none_swept : (names : List (List ℕ)) (t : Swept) → grants_to t.events ≡ 0 → grants_to (fold swept t names).events ≡ 0
-  none_swept [] t none = none
-  none_swept (c ∷ names) t none = none_swept names (swept t c) (behind_none t.events (touch_events_of c t.row t.owner) 0 none (none_left t.owner.desk.me c Expired (leavers (is_expired t.owner.desk.clock) (bench_of c t.row t.owner))))
-
-  pub owned_matches : (polls : StepPolls) (incoming : Incoming) (s : Holding) → Matches (owned_in polls incoming s).events (owned_in polls incoming s).alerts
-  owned_matches polls (TakesPacket from p) s = asked_matches polls.publish from p.line s
-  owned_matches polls (ClockReads t) s = refl
-  owned_matches polls Reaps s = sym (behind_none (swept_all s.row s.owner).events (map (freed_event s.owner.desk.me) (free_slots polls.reap)) 0 (none_swept (names_of s.owner) _ refl) (none_freed s.owner.desk.me (free_slots polls.reap)))
-  owned_matches polls (Posts c body) s = refl
-  owned_matches polls (Subscribes k list start) s = refl
-  owned_matches polls (Informs c) s = refl
+  -- what an owner does last
+  pub last_matches : (polls : StepPolls) (incoming : Incoming) (s : Holding) → Matches (owned_in polls incoming s).last.events (owned_in polls incoming s).last.alerts
+  last_matches polls (TakesPacket from p) s = asked_matches polls.publish from p.line s
+  last_matches polls (ClockReads t) s = refl
+  last_matches polls Reaps s = sym (none_freed s.owner.desk.me (free_slots polls.reap))
+  last_matches polls (Posts c body) s = refl
+  last_matches polls (Subscribes k list start) s = refl
+  last_matches polls (Removes c) s = refl
+  last_matches polls (Informs c) s = refl
 
   -- ---- the owner's part of a step as events
 
@@ -218,6 +231,6 @@ module _ (test : ℕ → ℕ → Bool) (x : ℕ) where
   weave_grants w next (Granted v g slot to ∷ es) (a ∷ alerts) = ap (λ n. cond ((to == x) && test g slot) (n + 1) n) (weave_grants w (numbered next a.to) es alerts)
   weave_grants w next (e ∷ es) alerts = weave_grants w next es alerts
 
-  -- what the owner's part of a step sends to the worker carries what it grants
+  -- what an owner sends to the worker with what it does at once carries what it grants
   pub woven_matches : (w v : ℕ) (next : ℕ → ℕ) (o : Owned) → AllByRecursion (IsOfOwner v) o.events → Matches o.events o.alerts → carried_by test (lines_of (sent_to x (weave w next o.events o.alerts))) ≡ grants_to (weave w next o.events o.alerts)
   woven_matches w v next o of m = weave_carries w v next o.events o.alerts of ∙ m ∙ sym (weave_grants w next o.events o.alerts)

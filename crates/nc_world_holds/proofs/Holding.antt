@@ -5,19 +5,22 @@ use Rattle.std.specs.List.{AllByRecursion}
 use Rattle.std.proofs.lemmas.Bool.Decides.{nat_tests}
 use Rattle.nc_journal.specs.History.{own, onto}
 use Rattle.nc_journal.specs.declared.event.Event.{Event}
-use Rattle.nc_journal.specs.declared.event.Event.TheVariants.{Granted, Released, Made, Took}
+use Rattle.nc_journal.specs.declared.event.Event.TheVariants.{Left, Granted, Released, Removed, Made, Took}
 use Rattle.nc_journal.specs.declared.alert.AlertLine.{AlertLine}
 use Rattle.nc_journal.specs.declared.alert.AlertLine.TheVariants as lines
 use Rattle.nc_owner.specs.AlertLines.{OutLine}
+use Rattle.nc_reaper.specs.Reap.{Step}
 use Rattle.nc_owner_laws.specs.Kinds.{IsOfOwner}
+use Rattle.nc_owner_laws.specs.Reaping.{steps_woven, next_behind}
+use Rattle.nc_owner_laws.specs.Sweeping.{IsOfRemovals, IsLoss, SweepsAre}
 use Rattle.nc_owner_laws.specs.Weave.{weave, makes, numbered}
 use Rattle.nc_history.specs.Packets.{Packet, packet, kind_of, lines_of, pending}
 use Rattle.nc_worker_state.specs.Setup.{Setup}
-use Rattle.nc_worker_state.specs.Incoming.{Incoming, TakesPacket, ClockReads, Reaps, Posts, Subscribes, Informs}
+use Rattle.nc_worker_state.specs.Incoming.{Incoming, TakesPacket, ClockReads, Reaps, Posts, Subscribes, Removes, Informs}
 use Rattle.nc_worker_state.specs.Deed.{Deed, Does, Makes, told, next_after}
-use Rattle.nc_worker_state.specs.Owned.{step_polls}
+use Rattle.nc_worker_state.specs.Owned.{Holding, step_polls}
 use Rattle.nc_worker_state.specs.Desk.{Desk, opening}
-use Rattle.nc_worker_state.specs.Worker.{with_at, sent_to, holding, dealt_worker}
+use Rattle.nc_worker_state.specs.Worker.{with_at, sent_to, holding, woven, dealt_worker}
 use Rattle.nc_world.specs.World.{World, seat, handled_events, handled, pending_in}
 use Rattle.nc_world.specs.Moves.{Move, Handles, Carries, Takes, Counts, Rests, counted, rested, ring_size, carried_one, carried, with_ring, taken_events, taken, move_events, moved}
 use Rattle.nc_world.specs.Reached.{IsSetup, IsInput, IsMove, Begins, Moves}
@@ -25,17 +28,18 @@ use Rattle.nc_world_laws.specs.Good.{Good}
 use Rattle.nc_world_laws.specs.Kinds.{IsBy, IsUntaken, IsOfWorker, AsksOwner, AreDeeds}
 use Rattle.nc_world_laws.proofs.Local.{eqb_self, eq_of, either, all_append, all_of}
 use Rattle.nc_world_laws.proofs.Taking.{first_pending}
-use Rattle.nc_world_laws.proofs.Parts.{owns, serves, before, part, behind, rest, rest_by, rest_untaken, step_by}
+use Rattle.nc_world_laws.proofs.Parts.{owns, serves, before, part, part_made, part_alerts, behind, rest, rest_by, rest_untaken, step_by}
 use Rattle.nc_world_laws.proofs.Stepping.{is_me}
 use Rattle.nc_world_laws.proofs.Owning.{of_owned}
 use Rattle.nc_world_laws.proofs.Serving.{served_well}
-use Rattle.nc_world_laws.proofs.Telling.{deeds_do, deeds_make, told_all, told_made, woven_made, by_worker}
+use Rattle.nc_world_laws.proofs.Telling.{deeds_do, deeds_make, told_all, told_made, steps_made, by_worker}
 use Rattle.nc_world_laws.proofs.Moving.{reached_is_good}
 use Rattle.nc_world_holds.specs.Balance.{granted_to, released_by, carries, carried_by, kept_by, brought, IsWholeIncoming, IsWholeLine, AreWhole, HoldsKept, ReachedHolds}
-use Rattle.nc_world_holds.proofs.Granting.{grants_to, grants_append, owned_matches, woven_matches}
+use Rattle.nc_world_holds.proofs.Granting.{grants_to, grants_append, last_matches, woven_matches}
 use Rattle.nc_world_holds.proofs.Serving.{served_balances}
+use Rattle.nc_world_holds.proofs.Removals.{sweeps_are}
 use Rattle.nc_world_holds.proofs.Balancing.{releases_in, released_step, packets_append, step_balances}
-use Rattle.nc_world_holds.proofs.Wholeness.{MakesWhole, IsWholeOut, owned_whole, asks_whole, owner_makes, worker_makes, opening_makes, pending_whole, dropped_whole}
+use Rattle.nc_world_holds.proofs.Wholeness.{MakesWhole, IsWholeOut, asked_whole, asks_whole, owner_makes, worker_makes, opening_makes, pending_whole, dropped_whole}
 
 sent_append : (x : ℕ) (es fs : List Event) → sent_to x (es ++ fs) ≡ sent_to x es ++ sent_to x fs
 sent_append x [] fs = refl
@@ -69,6 +73,47 @@ module _ (test : ℕ → ℕ → Bool) where
   weave_releases o w v next (Released u owner g slot ∷ es) alerts of = absurd of.0
   weave_releases o w v next (e ∷ es) alerts of = weave_releases o w v next es alerts of.1
 
+  -- nothing is granted and nothing released, and what is made carries no hold
+  abbrev IsHoldless : Event → Type 0
+  IsHoldless (Granted v g slot to) = ⊥
+  IsHoldless (Released v owner g slot) = ⊥
+  IsHoldless (Made v to n a) = carries test a ≡ 0
+  IsHoldless e = Unit {0}
+
+  holdless_grants : (x : ℕ) (es : List Event) → AllByRecursion IsHoldless es → grants_to test x es ≡ 0
+  holdless_grants x [] none = refl
+  holdless_grants x (Granted v g slot to ∷ es) none = absurd none.0
+  holdless_grants x (e ∷ es) none = holdless_grants x es none.1
+
+  holdless_sends : (x : ℕ) (es : List Event) → AllByRecursion IsHoldless es → carried_by test (lines_of (sent_to x es)) ≡ 0
+  holdless_sends x [] none = refl
+  holdless_sends x (Made v to n a ∷ es) none = by (x == to) (holdless_sends x es none.1)
+    where
+      by : (b : Bool) → carried_by test (lines_of (sent_to x es)) ≡ 0 → carried_by test (lines_of (cond b (packet n a ∷ sent_to x es) (sent_to x es))) ≡ 0
+      by true others = omega (arith, none.0, others)
+      by false others = others
+  holdless_sends x (e ∷ es) none = holdless_sends x es none.1
+
+  holdless_releases : (o : ℕ) (es : List Event) → AllByRecursion IsHoldless es → releases_in test o es ≡ 0
+  holdless_releases o [] none = refl
+  holdless_releases o (Released v owner g slot ∷ es) none = absurd none.0
+  holdless_releases o (e ∷ es) none = holdless_releases o es none.1
+
+  removal_holdless : (workers w : ℕ) (e : Event) → IsOfRemovals workers w e → IsHoldless e
+  removal_holdless workers w (Left v c id slot cause) r = tt
+  removal_holdless workers w (Removed v c last cause) r = tt
+  removal_holdless workers w e r = absurd r
+
+  loss_holdless : (workers w : ℕ) (a : AlertLine) → IsLoss workers w a → carries test a ≡ 0
+  loss_holdless workers w (lines.Gone c subs) l = refl
+  loss_holdless workers w a l = absurd l
+
+  -- so are sweeps
+  sweeps_holdless : (workers w : ℕ) (next : ℕ → ℕ) (steps : List Step) → SweepsAre workers w steps → AllByRecursion IsHoldless (steps_woven w next steps)
+  sweeps_holdless workers w next steps are =
+      steps_made IsHoldless (λ a. IsLoss workers w a.line) w (λ n a l. loss_holdless workers w a.line l) next steps
+      (all_of (λ x. AllByRecursion (IsOfRemovals workers w) x.events) (λ x. AllByRecursion IsHoldless x.events) (λ x a. all_of (IsOfRemovals workers w) IsHoldless (removal_holdless workers w) x.events a) steps are.events) are.alerts
+
   told_grants : (workers w x : ℕ) (next : ℕ → ℕ) (deeds : List Deed) → AreDeeds workers w deeds → grants_to test x (told w next deeds) ≡ 0
   told_grants workers w x next [] d = refl
   told_grants workers w x next (Does (Granted v g slot to) ∷ deeds) d = absurd d.0
@@ -97,6 +142,7 @@ module _ (test : ℕ → ℕ → Bool) where
   opening_grants setup w x Reaps d = refl
   opening_grants setup w x (Posts c body) d = refl
   opening_grants setup w x (Subscribes k list start) d = refl
+  opening_grants setup w x (Removes c) d = refl
   opening_grants setup w x (Informs c) d = refl
 
   opening_sends : (setup : Setup) (w x : ℕ) (incoming : Incoming) (d : Desk) → carried_by test (lines_of (sent_to x (opening setup w incoming d))) ≡ 0
@@ -105,6 +151,7 @@ module _ (test : ℕ → ℕ → Bool) where
   opening_sends setup w x Reaps d = refl
   opening_sends setup w x (Posts c body) d = refl
   opening_sends setup w x (Subscribes k list start) d = refl
+  opening_sends setup w x (Removes c) d = refl
   opening_sends setup w x (Informs c) d = refl
 
   opening_releases : (setup : Setup) (w o : ℕ) (incoming : Incoming) (d : Desk) → releases_in test o (opening setup w incoming d) ≡ 0
@@ -113,6 +160,7 @@ module _ (test : ℕ → ℕ → Bool) where
   opening_releases setup w o Reaps d = refl
   opening_releases setup w o (Posts c body) d = refl
   opening_releases setup w o (Subscribes k list start) d = refl
+  opening_releases setup w o (Removes c) d = refl
   opening_releases setup w o (Informs c) d = refl
 
   -- ---- a worker's step in a good world
@@ -121,8 +169,21 @@ module _ (test : ℕ → ℕ → Bool) where
     me : (world.workers w).owner.desk.me ≡ w
     me = is_me w setup.workers setup.slots setup.first (world.rows w) (own w h) (world.workers w).owner (g.keeps w).stands
 
-    of : AllByRecursion (IsOfOwner w) (owns w incoming world).events
-    of = of_owned w (step_polls incoming (holding w (seat w world))) incoming (holding w (seat w world)) me
+    abbrev seated : Holding
+    seated = holding w (seat w world)
+
+    of : AllByRecursion (IsOfOwner w) (owns w incoming world).last.events
+    of = (of_owned setup.workers w (step_polls incoming seated) incoming seated me (g.owns w)).1
+
+    -- the sweeps, and what the owner does last
+    abbrev swept : List Event
+    swept = steps_woven w (world.workers w).next (owns w incoming world).sweeps
+
+    abbrev last : List Event
+    last = woven w (next_behind (world.workers w).next (owns w incoming world).sweeps) (owns w incoming world).last
+
+    swept_holdless : AllByRecursion IsHoldless swept
+    swept_holdless = sweeps_holdless setup.workers w (world.workers w).next (owns w incoming world).sweeps (sweeps_are setup.workers w (step_polls incoming seated) incoming seated me (g.owns w))
 
     well : AreDeeds setup.workers w (serves setup w incoming world).deeds
     well = (served_well setup is w incoming (world.workers w).desk (g.knows w)).0
@@ -131,7 +192,15 @@ module _ (test : ℕ → ℕ → Bool) where
     next = next_after (world.workers w).next (part w incoming world)
 
     part_sends : (x : ℕ) → carried_by test (lines_of (sent_to x (part w incoming world))) ≡ grants_to test x (part w incoming world)
-    part_sends x = woven_matches test x w w (world.workers w).next (owns w incoming world) of (owned_matches test x (step_polls incoming (holding w (seat w world))) incoming (holding w (seat w world)))
+    part_sends x =
+        let a = grants_append test x swept last in
+        let b = ap (λ (ps : List Packet). carried_by test (lines_of ps)) (sent_append x swept last) ∙ packets_append test (sent_to x swept) (sent_to x last) in
+        let c = woven_matches test x w w (next_behind (world.workers w).next (owns w incoming world).sweeps) (owns w incoming world).last of (last_matches test x (step_polls incoming seated) incoming seated) in
+        omega (arith, a, b, c, holdless_grants x swept swept_holdless, holdless_sends x swept swept_holdless)
+
+    part_releases : (o : ℕ) → releases_in test o (part w incoming world) ≡ 0
+    part_releases o =
+        omega (arith, releases_append o swept last, holdless_releases o swept swept_holdless, weave_releases o w w (next_behind (world.workers w).next (owns w incoming world).sweeps) (owns w incoming world).last.events (owns w incoming world).last.alerts of)
 
     -- behind what opens it
     rest_sends : (x : ℕ) → grants_to test x (rest setup w incoming world) ≡ carried_by test (lines_of (sent_to x (rest setup w incoming world)))
@@ -162,7 +231,7 @@ module _ (test : ℕ → ℕ → Bool) where
     rest_keeps : (o : ℕ) → releases_in test o (rest setup w incoming world) + kept_by test o (serves setup w incoming world).after.spools.kept ≡ brought test o incoming + kept_by test o (world.workers w).desk.spools.kept
     rest_keeps o =
         let a = releases_append o (part w incoming world) (behind setup w incoming world) in
-        let b = weave_releases o w w (world.workers w).next (owns w incoming world).events (owns w incoming world).alerts of in
+        let b = part_releases o in
         let c = behind_keeps o in
         omega (arith, a, b, c)
 
@@ -190,28 +259,28 @@ module _ (test : ℕ → ℕ → Bool) where
         let third = behind setup w incoming world in
         let a = releases_append o (first ++ second) third in
         let b = releases_append o first second in
-        let c = weave_releases o w w (world.workers w).next (owns w incoming world).events (owns w incoming world).alerts of in
+        let c = part_releases o in
         let d = opening_releases setup w o incoming (world.workers w).desk in
         omega (arith, a, b, c, d, behind_keeps o)
 
 -- ---- what a step makes is whole
 
 module _ (setup : Setup) (is : IsSetup setup) (w : ℕ) (incoming : Incoming) (h : List Event) (world : World) (g : Good setup h world) where
-  of_step : AllByRecursion (IsOfOwner w) (owns w incoming world).events
-  of_step = of_owned w (step_polls incoming (holding w (seat w world))) incoming (holding w (seat w world)) (is_me w setup.workers setup.slots setup.first (world.rows w) (own w h) (world.workers w).owner (g.keeps w).stands)
-
   deeds_step : AreDeeds setup.workers w (serves setup w incoming world).deeds
   deeds_step = (served_well setup is w incoming (world.workers w).desk (g.knows w)).0
 
+  part_whole : AllByRecursion MakesWhole (part w incoming world)
+  part_whole = part_made setup is w incoming h world g MakesWhole IsWholeOut (owner_makes w) (λ n o q. q)
+      (part_alerts setup is w incoming h world g IsWholeOut (λ from p e. asked_whole (step_polls incoming (holding w (seat w world))).publish from p.line (holding w (seat w world))) (λ c subs to mine. tt))
+
   rest_whole : AllByRecursion MakesWhole (rest setup w incoming world)
   rest_whole = all_append MakesWhole (part w incoming world) (behind setup w incoming world)
-      (woven_made MakesWhole IsWholeOut w (λ n o q. q) (world.workers w).next (owns w incoming world).events (owns w incoming world).alerts (all_of (IsOfOwner w) MakesWhole (owner_makes w) (owns w incoming world).events of_step) (owned_whole (step_polls incoming (holding w (seat w world))) incoming (holding w (seat w world))))
+      part_whole
       (told_made MakesWhole (AsksOwner setup.workers) w (next_after (world.workers w).next (part w incoming world)) (λ to n a q. asks_whole setup.workers to a q) (serves setup w incoming world).deeds (deeds_do setup.workers w MakesWhole (worker_makes w) (serves setup w incoming world).deeds deeds_step) (deeds_make setup.workers w (serves setup w incoming world).deeds deeds_step))
 
   step_whole : AllByRecursion MakesWhole (handled_events setup w incoming world)
   step_whole = all_append MakesWhole (before setup w incoming world ++ part w incoming world) (behind setup w incoming world)
-      (all_append MakesWhole (before setup w incoming world) (part w incoming world) (opening_makes setup w incoming (world.workers w).desk)
-      (woven_made MakesWhole IsWholeOut w (λ n o q. q) (world.workers w).next (owns w incoming world).events (owns w incoming world).alerts (all_of (IsOfOwner w) MakesWhole (owner_makes w) (owns w incoming world).events of_step) (owned_whole (step_polls incoming (holding w (seat w world))) incoming (holding w (seat w world)))))
+      (all_append MakesWhole (before setup w incoming world) (part w incoming world) (opening_makes setup w incoming (world.workers w).desk) part_whole)
       (told_made MakesWhole (AsksOwner setup.workers) w (next_after (world.workers w).next (part w incoming world)) (λ to n a q. asks_whole setup.workers to a q) (serves setup w incoming world).deeds (deeds_do setup.workers w MakesWhole (worker_makes w) (serves setup w incoming world).deeds deeds_step) (deeds_make setup.workers w (serves setup w incoming world).deeds deeds_step))
 
 -- ---- the kinds of move
@@ -222,6 +291,7 @@ opening_untaken setup w (ClockReads t) h d i = (tt, tt)
 opening_untaken setup w Reaps h d i = tt
 opening_untaken setup w (Posts c body) h d i = (tt, tt)
 opening_untaken setup w (Subscribes k list start) h d i = (tt, tt)
+opening_untaken setup w (Removes c) h d i = (tt, tt)
 opening_untaken setup w (Informs c) h d i = (tt, tt)
 
 input_whole : (w : ℕ) (incoming : Incoming) (h : List Event) → IsInput w h incoming → IsWholeIncoming incoming
@@ -230,6 +300,7 @@ input_whole w (ClockReads t) h i = tt
 input_whole w Reaps h i = tt
 input_whole w (Posts c body) h i = tt
 input_whole w (Subscribes k list start) h i = tt
+input_whole w (Removes c) h i = tt
 input_whole w (Informs c) h i = tt
 
 nothing_brought : (test : ℕ → ℕ → Bool) (o w : ℕ) (incoming : Incoming) (h : List Event) → IsInput w h incoming → brought test o incoming ≡ 0
@@ -238,6 +309,7 @@ nothing_brought test o w (ClockReads t) h i = refl
 nothing_brought test o w Reaps h i = refl
 nothing_brought test o w (Posts c body) h i = refl
 nothing_brought test o w (Subscribes k list start) h i = refl
+nothing_brought test o w (Removes c) h i = refl
 nothing_brought test o w (Informs c) h i = refl
 
 module _ (setup : Setup) (is : IsSetup setup) where

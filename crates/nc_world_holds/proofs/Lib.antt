@@ -1,3 +1,4 @@
+pub mod Removals
 pub mod Serving
 pub mod Granting
 pub mod Balancing

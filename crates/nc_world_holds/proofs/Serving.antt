@@ -18,7 +18,7 @@ use Rattle.nc_spool.specs.declared.fact.Fact.{Fact}
 use Rattle.nc_spool.specs.declared.fact.Fact.TheVariants as facts
 use Rattle.nc_spool.specs.Calls.{SpoolsAt, arrive_facts, answer_facts, edge_facts, notice_facts, gone_facts}
 use Rattle.nc_worker_state.specs.Setup.{Setup}
-use Rattle.nc_worker_state.specs.Incoming.{Incoming, TakesPacket, ClockReads, Reaps, Posts, Subscribes, Informs}
+use Rattle.nc_worker_state.specs.Incoming.{Incoming, TakesPacket, ClockReads, Reaps, Posts, Subscribes, Removes, Informs}
 use Rattle.nc_worker_state.specs.Deed.{Deed, Does, Makes, told}
 use Rattle.nc_worker_state.specs.Spooled.{Hold, fact_deed, facts_deeds, found_in, found_by, release}
 use Rattle.nc_worker_state.specs.Desk.{Desk, Served, is_waiting, replied, handled, begun, settled}
@@ -161,6 +161,7 @@ module _ (test : ℕ → ℕ → Bool) (o me : ℕ) where
   begun_gains setup Reaps d w = none_gained d _ tt refl
   begun_gains setup (Posts c body) d w = none_gained d _ tt refl
   begun_gains setup (Subscribes k list start) d w = none_gained d _ (facts_unreleased Answered (arrive_facts k list start true d.spools)) refl
+  begun_gains setup (Removes c) d w = none_gained d _ tt refl
   begun_gains setup (Informs c) d w = none_gained d _ tt refl
 
 pub served_balances : ServedBalances

@@ -20,14 +20,15 @@ use Rattle.nc_owner.specs.Fence.{with_floor}
 use Rattle.nc_owner_laws.specs.Kinds.{IsOfOwner}
 use Rattle.nc_history.specs.Packets.{Packet, packet, pending}
 use Rattle.nc_worker_state.specs.Setup.{Setup}
-use Rattle.nc_worker_state.specs.Incoming.{Incoming, TakesPacket, ClockReads, Reaps, Posts, Subscribes, Informs}
-use Rattle.nc_worker_state.specs.Owned.{Holding, StepPolls, order_of, owned_in, owned_by}
+use Rattle.nc_worker_state.specs.Incoming.{Incoming, TakesPacket, ClockReads, Reaps, Posts, Subscribes, Removes, Informs}
+use Rattle.nc_worker_state.specs.Owned.{Holding, order_of, owned_by}
 use Rattle.nc_worker_state.specs.Desk.{Desk, opening}
 use Rattle.nc_worker_state.specs.Worker.{sent_to}
 use Rattle.nc_world_laws.specs.Kinds.{IsBy, IsUntaken, IsOfWorker, AsksOwner}
 use Rattle.nc_world_laws.proofs.Local.{all_append}
 use Rattle.nc_world_laws.proofs.Queues.{pending_after}
 use Rattle.nc_world_holds.specs.Balance.{IsWholeLine, AreWhole}
+use Rattle.nc_world_holds.proofs.Removals.{deletion_tells}
 
 -- what is made is whole
 abbrev pub MakesWhole : Event → Type 0
@@ -54,7 +55,7 @@ info_whole : (b : Bool) (r : ℕ) (info : Option Info) → IsWholeLine (cond b (
 info_whole true r info = tt
 info_whole false r info = tt
 
-asked_whole : (polls : Polls) (from : ℕ) (line : AlertLine) (s : Holding) → AllByRecursion IsWholeOut (owned_by polls from line s).alerts
+pub asked_whole : (polls : Polls) (from : ℕ) (line : AlertLine) (s : Holding) → AllByRecursion IsWholeOut (owned_by polls from line s).alerts
 asked_whole polls from (lines.Publish r c len timeout ct body) s = let o = order_of r c len timeout ct body in post_whole (publish_outcome o polls s.row s.owner) from o polls (publish_cleared o polls s.row s.owner)
 asked_whole polls from (lines.Look number c after fence) s = let ready = look_ready c s.row (with_floor fence s.owner) in found_whole from number (found_on after ready) ready.desk
 asked_whole polls from (lines.Edge number k c fence) s = (tt, tt)
@@ -65,18 +66,10 @@ asked_whole polls from (lines.PubAnswer r status info usage) s = tt
 asked_whole polls from (lines.LookAnswer number q floor found g slot) s = tt
 asked_whole polls from (lines.Notice c id g slot) s = tt
 asked_whole polls from (lines.EdgeAnswer number q floor last) s = tt
-asked_whole polls from (lines.Delete r c) s = tt
+asked_whole polls from (lines.Delete r c) s = deletion_tells IsWholeOut (λ to d subs. tt) (λ to n status info. tt) from r c s.row s.owner
 asked_whole polls from (lines.DelAnswer r status info) s = tt
 asked_whole polls from (lines.Gone c subs) s = tt
 asked_whole polls from (lines.InfoAnswer r status info) s = tt
-
-pub owned_whole : (polls : StepPolls) (incoming : Incoming) (s : Holding) → AllByRecursion IsWholeOut (owned_in polls incoming s).alerts
-owned_whole polls (TakesPacket from p) s = asked_whole polls.publish from p.line s
-owned_whole polls (ClockReads t) s = tt
-owned_whole polls Reaps s = tt
-owned_whole polls (Posts c body) s = tt
-owned_whole polls (Subscribes k list start) s = tt
-owned_whole polls (Informs c) s = tt
 
 -- what asks an owner is no answer
 pub asks_whole : (workers to : ℕ) (a : AlertLine) → AsksOwner workers to a → IsWholeLine a
@@ -97,6 +90,7 @@ opening_makes setup w (ClockReads t) d = (tt, tt)
 opening_makes setup w Reaps d = tt
 opening_makes setup w (Posts c body) d = (tt, tt)
 opening_makes setup w (Subscribes k list start) d = (tt, tt)
+opening_makes setup w (Removes c) d = (tt, tt)
 opening_makes setup w (Informs c) d = (tt, tt)
 
 -- ---- what is pending then

@@ -11,6 +11,7 @@ use Rattle.nc_world_sent_holds.proofs.Rule.{histories_keep_slot_rule}
 use Rattle.nc_world_follows.specs.Laws.{FitLinesReach}
 use Rattle.nc_world_follows.proofs.Following.{journal_follows}
 use Rattle.nc_world_follows.proofs.Cutting.{owners_rule_holds}
+use Rattle.nc_world_follows.proofs.EndingCut.{ending_rule_holds}
 use Rattle.nc_world_lawful.specs.Lawful.{HistoriesAreLawful, JournalsAreLawful}
 
 pub histories_are_lawful : HistoriesAreLawful
@@ -29,4 +30,5 @@ journals_are_lawful reach setup lines is fit = record {
   held = histories_keep_slot_rule setup (joined (journal_of setup lines)) (lines_world setup lines) is (reach setup lines fit);
   follows = journal_follows reach setup lines is fit;
   owners = owners_rule_holds reach setup lines is fit;
+  ended = ending_rule_holds reach setup lines is fit;
 }

@@ -10,11 +10,12 @@ use Rattle.nc_journal.specs.declared.alert.AlertLine.{AlertLine}
 use Rattle.nc_slots.specs.declared.slot.Slot.{Slot}
 use Rattle.nc_slots.specs.Slot.{slot_at, most_holds}
 use Rattle.nc_owner_laws.specs.HoldsKept.{HoldsFit, one_less}
+use Rattle.nc_owner_laws.specs.OwnChannels.{OwnsChannels}
 use Rattle.nc_owner_laws.specs.Reaping.{Keeps}
 use Rattle.nc_history.specs.Packets.{Packet, packet, pending}
 use Rattle.nc_worker_state.specs.Setup.{Setup}
 use Rattle.nc_worker_state.specs.Deed.{next_after}
-use Rattle.nc_worker_state.specs.Owned.{Owned}
+use Rattle.nc_worker_state.specs.Owned.{OwnersPart}
 use Rattle.nc_worker_state.specs.Desk.{Served}
 use Rattle.nc_worker_state.specs.Worker.{WorkerAt, Seat, with_at, sent_to, given_back, dealt_worker, dealt_counts}
 use Rattle.nc_world.specs.World.{World, with_seat}
@@ -58,36 +59,37 @@ given_fits (e ∷ es) row counts v f = given_fits es row counts v f
 
 -- what is made keeps what its receiver counts on
 abbrev pub MakesRightly : ℕ → Event → Type 0
-MakesRightly workers (Made w to n a) = IsLineTo workers to a
+MakesRightly workers (Made w to n a) = IsLineTo workers w to a
 MakesRightly workers _ = Unit {0}
 
-right_case : (b : Bool) (workers y to n : ℕ) (a : AlertLine) (ps : List Packet) → (b ≡ true → y ≡ to) → IsLineTo workers to a → AreLinesTo workers y ps → AreLinesTo workers y (cond b (packet n a ∷ ps) ps)
-right_case true workers y to n a ps e i l = (subst (λ (k : ℕ). IsLineTo workers k a) (sym (e refl)) i, l)
-right_case false workers y to n a ps e i l = l
+right_case : (b : Bool) (workers w v y to n : ℕ) (a : AlertLine) (ps : List Packet) → w ≡ v → (b ≡ true → y ≡ to) → IsLineTo workers v to a → AreLinesTo workers w y ps → AreLinesTo workers w y (cond b (packet n a ∷ ps) ps)
+right_case true workers w v y to n a ps is e i l = (subst (λ (k : ℕ × ℕ). IsLineTo workers k.0 k.1 a) (λ j. (sym is j, sym (e refl) j)) i, l)
+right_case false workers w v y to n a ps is e i l = l
 
-sent_right : (workers y : ℕ) (es : List Event) → AllByRecursion (MakesRightly workers) es → AreLinesTo workers y (sent_to y es)
-sent_right workers y [] r = tt
-sent_right workers y (Made w to n a ∷ es) r = right_case (y == to) workers y to n a (sent_to y es) (eq_of y to) r.0 (sent_right workers y es r.1)
-sent_right workers y (e ∷ es) r = sent_right workers y es r.1
+sent_right : (workers w y : ℕ) (es : List Event) → AllByRecursion (IsBy w) es → AllByRecursion (MakesRightly workers) es → AreLinesTo workers w y (sent_to y es)
+sent_right workers w y [] by r = tt
+sent_right workers w y (Made v to n a ∷ es) by r = right_case (y == to) workers w v y to n a (sent_to y es) (eq_of w v by.0) (eq_of y to) r.0 (sent_right workers w y es by.1 r.1)
+sent_right workers w y (e ∷ es) by r = sent_right workers w y es by.1 r.1
 
 -- ---- a worker acts
 
--- what a worker did fits its world: the events are its own, take nothing, are numbered and rightly sent; its owner stands for them;
--- and its spools know the workers
-pub record ActsWell (setup : Setup) (w : ℕ) (h : List Event) (world : World) (events : List Event) (o : Owned) (r : Served) : Type 0 where
+-- what a worker did fits its world: the events are its own, take nothing, are numbered and rightly sent; its owner stands for them
+-- and keeps channels of its own; and its spools know the workers
+pub record ActsWell (setup : Setup) (w : ℕ) (h : List Event) (world : World) (events : List Event) (o : OwnersPart) (r : Served) : Type 0 where
   pub by : AllByRecursion (IsBy w) events
   pub untaken : AllByRecursion IsUntaken events
   pub numbered : AreNumbered (world.workers w).next events
   pub right : AllByRecursion (MakesRightly setup.workers) events
-  pub keeps : Keeps w setup.workers setup.slots setup.first o.after.row (onto events (own w h)) o.after.owner
-  pub holds : HoldsFit o.after.row o.after.counts
+  pub keeps : Keeps w setup.workers setup.slots setup.first o.last.after.row (onto events (own w h)) o.last.after.owner
+  pub owns : OwnsChannels setup.workers w o.last.after.owner
+  pub holds : HoldsFit o.last.after.row o.last.after.counts
   pub knows : r.after.spools.workers ≡ setup.workers
 
 -- the seat of a worker that acted
-abbrev pub acted : ℕ → List Event → Owned → Served → World → Seat
-acted w events o r world = record { worker = dealt_worker events o r (world.workers w); row = o.after.row; counts = dealt_counts w events o world.counts }
+abbrev pub acted : ℕ → List Event → OwnersPart → Served → World → Seat
+acted w events o r world = record { worker = dealt_worker events o r (world.workers w); row = o.last.after.row; counts = dealt_counts w events o world.counts }
 
-module _ (setup : Setup) (w : ℕ) (h : List Event) (world : World) (events : List Event) (o : Owned) (r : Served) (g : Good setup h world) (f : ActsWell setup w h world events o r) where
+module _ (setup : Setup) (w : ℕ) (h : List Event) (world : World) (events : List Event) (o : OwnersPart) (r : Served) (g : Good setup h world) (f : ActsWell setup w h world events o r) where
   abbrev new : WorkerAt
   new = dealt_worker events o r (world.workers w)
 
@@ -99,26 +101,26 @@ module _ (setup : Setup) (w : ℕ) (h : List Event) (world : World) (events : Li
       (pending_sent w y events h f.by f.untaken ∙ ap (λ (l : List Packet). l ++ sent_to y events) (g.queues w y) ∙ append_assoc (world.rings w y) ((world.workers w).outbox y) (sent_to y events))
       (λ x e. pending_other x w y events h e f.by f.untaken ∙ g.queues x y) v
 
-  acts_lines : (v y : ℕ) → AreLinesTo setup.workers y (pending v y (onto events h))
+  acts_lines : (v y : ℕ) → AreLinesTo setup.workers v y (pending v y (onto events h))
   acts_lines v y = by (v == w) refl
     where
-      by : (b : Bool) → (v == w) ≡ b → AreLinesTo setup.workers y (pending v y (onto events h))
-      by true e = subst (λ (x : ℕ). AreLinesTo setup.workers y (pending x y (onto events h))) (sym (eq_of v w e)) (subst (AreLinesTo setup.workers y) (sym (pending_sent w y events h f.by f.untaken))
-          (all_append (λ p. IsLineTo setup.workers y p.line) (pending w y h) (sent_to y events) (g.lines w y) (sent_right setup.workers y events f.right)))
-      by false e = subst (AreLinesTo setup.workers y) (sym (pending_other v w y events h e f.by f.untaken)) (g.lines v y)
+      by : (b : Bool) → (v == w) ≡ b → AreLinesTo setup.workers v y (pending v y (onto events h))
+      by true e = subst (λ (x : ℕ). AreLinesTo setup.workers x y (pending x y (onto events h))) (sym (eq_of v w e)) (subst (AreLinesTo setup.workers w y) (sym (pending_sent w y events h f.by f.untaken))
+          (all_append (λ p. IsLineTo setup.workers w y p.line) (pending w y h) (sent_to y events) (g.lines w y) (sent_right setup.workers w y events f.by f.right)))
+      by false e = subst (AreLinesTo setup.workers v y) (sym (pending_other v w y events h e f.by f.untaken)) (g.lines v y)
 
-  acts_keeps : (v : ℕ) → Keeps v setup.workers setup.slots setup.first (with_at world.rows w o.after.row v) (own v (onto events h)) (with_at world.workers w new v).owner
+  acts_keeps : (v : ℕ) → Keeps v setup.workers setup.slots setup.first (with_at world.rows w o.last.after.row v) (own v (onto events h)) (with_at world.workers w new v).owner
   acts_keeps v = by (v == w) refl
     where
-      by : (b : Bool) → (v == w) ≡ b → Keeps v setup.workers setup.slots setup.first (cond b o.after.row (world.rows v)) (own v (onto events h)) (cond b new (world.workers v)).owner
-      by true e = subst (λ (x : ℕ). Keeps x setup.workers setup.slots setup.first o.after.row (own x (onto events h)) o.after.owner) (sym (eq_of v w e))
-          (subst (λ (l : List Event). Keeps w setup.workers setup.slots setup.first o.after.row l o.after.owner) (sym (own_onto w events h f.by)) f.keeps)
+      by : (b : Bool) → (v == w) ≡ b → Keeps v setup.workers setup.slots setup.first (cond b o.last.after.row (world.rows v)) (own v (onto events h)) (cond b new (world.workers v)).owner
+      by true e = subst (λ (x : ℕ). Keeps x setup.workers setup.slots setup.first o.last.after.row (own x (onto events h)) o.last.after.owner) (sym (eq_of v w e))
+          (subst (λ (l : List Event). Keeps w setup.workers setup.slots setup.first o.last.after.row l o.last.after.owner) (sym (own_onto w events h f.by)) f.keeps)
       by false e = subst (λ (l : List Event). Keeps v setup.workers setup.slots setup.first (world.rows v) l (world.workers v).owner) (sym (own_other v w events h e f.by)) (g.keeps v)
 
-  acts_holds : (v : ℕ) → HoldsFit (with_at world.rows w o.after.row v) (given_back (with_at world.counts w o.after.counts) events v)
-  acts_holds v = given_fits events (with_at world.rows w o.after.row v) (with_at world.counts w o.after.counts) v (by (v == w))
+  acts_holds : (v : ℕ) → HoldsFit (with_at world.rows w o.last.after.row v) (given_back (with_at world.counts w o.last.after.counts) events v)
+  acts_holds v = given_fits events (with_at world.rows w o.last.after.row v) (with_at world.counts w o.last.after.counts) v (by (v == w))
     where
-      by : (b : Bool) → HoldsFit (cond b o.after.row (world.rows v)) (cond b o.after.counts (world.counts v))
+      by : (b : Bool) → HoldsFit (cond b o.last.after.row (world.rows v)) (cond b o.last.after.counts (world.counts v))
       by true = f.holds
       by false = g.holds v
 
@@ -130,6 +132,7 @@ module _ (setup : Setup) (w : ℕ) (h : List Event) (world : World) (events : Li
         (λ x e. follow_other setup.first x w (world.workers x).next events h e f.by (g.follow x));
     lines = acts_lines;
     keeps = acts_keeps;
+    owns = with_all (λ x (s : WorkerAt). OwnsChannels setup.workers x s.owner) world.workers w new f.owns (λ x e. g.owns x);
     holds = acts_holds;
     knows = with_all (λ x (s : WorkerAt). s.desk.spools.workers ≡ setup.workers) world.workers w new f.knows (λ x e. g.knows x);
   }

@@ -13,7 +13,7 @@ use Rattle.nc_owner_laws.specs.Wake.{made_to}
 use Rattle.nc_owner_laws.proofs.Stamping.{onto_append}
 use Rattle.nc_history.specs.Packets.{Packet, kind_of, pending, sent_lines}
 use Rattle.nc_worker_state.specs.Setup.{Setup}
-use Rattle.nc_worker_state.specs.Incoming.{Incoming, TakesPacket, ClockReads, Reaps, Posts, Subscribes, Informs}
+use Rattle.nc_worker_state.specs.Incoming.{Incoming, TakesPacket, ClockReads, Reaps, Posts, Subscribes, Removes, Informs}
 use Rattle.nc_worker_state.specs.Worker.{sent_to}
 use Rattle.nc_world.specs.World.{World, handled_events}
 use Rattle.nc_world.specs.Reached.{IsSetup, IsInput}
@@ -54,6 +54,7 @@ input_untaken setup is w (ClockReads t) h world g i = (tt, rest_untaken setup is
 input_untaken setup is w Reaps h world g i = rest_untaken setup is w Reaps h world g
 input_untaken setup is w (Posts c body) h world g i = (tt, rest_untaken setup is w (Posts c body) h world g)
 input_untaken setup is w (Subscribes k list start) h world g i = (tt, rest_untaken setup is w (Subscribes k list start) h world g)
+input_untaken setup is w (Removes c) h world g i = (tt, rest_untaken setup is w (Removes c) h world g)
 input_untaken setup is w (Informs c) h world g i = (tt, rest_untaken setup is w (Informs c) h world g)
 
 pub input_pending : (setup : Setup) (is : IsSetup setup) (w : ℕ) (incoming : Incoming) (h : List Event) (world : World) → Good setup h world → IsInput w h incoming → (v y : ℕ)

@@ -7,9 +7,10 @@ use Rattle.nc_journal.specs.declared.event.Event.TheVariants.{Took}
 use Rattle.nc_owner_laws.proofs.OwnerSteps as steps
 use Rattle.nc_owner_laws.proofs.InOrder as order
 use Rattle.nc_owner_laws.proofs.HoldsKept as holding_laws
+use Rattle.nc_owner_laws.proofs.OwnChannels.{new_owns}
 use Rattle.nc_history.specs.Packets.{Packet, kind_of}
 use Rattle.nc_worker_state.specs.Setup.{Setup}
-use Rattle.nc_worker_state.specs.Incoming.{Incoming, TakesPacket, ClockReads, Reaps, Posts, Subscribes, Informs}
+use Rattle.nc_worker_state.specs.Incoming.{Incoming, TakesPacket, ClockReads, Reaps, Posts, Subscribes, Removes, Informs}
 use Rattle.nc_world.specs.World.{World, new_world, handled_events, handled, pending_in}
 use Rattle.nc_world.specs.Moves.{Move, Handles, Carries, Takes, Counts, Rests, counted, rested, taken_events, taken, move_events, moved, with_ring}
 use Rattle.nc_world.specs.Reached.{IsSetup, IsInput, IsMove, Begins, Moves}
@@ -34,8 +35,8 @@ keeps_theme setup me = record {
 }
 
 -- the packet that a worker takes next keeps what it counts on
-pub taken_right : (setup : Setup) (w v : ℕ) (p : Packet) (ps : List Packet) (h : List Event) (world : World) → Good setup h world → world.rings v w ≡ p ∷ ps → IsLineTo setup.workers w p.line
-taken_right setup w v p ps h world g is = (subst (AreLinesTo setup.workers w) (first_pending setup w v p ps h world g is) (g.lines v w)).0
+pub taken_right : (setup : Setup) (w v : ℕ) (p : Packet) (ps : List Packet) (h : List Event) (world : World) → Good setup h world → world.rings v w ≡ p ∷ ps → IsLineTo setup.workers v w p.line
+taken_right setup w v p ps h world g is = (subst (AreLinesTo setup.workers v w) (first_pending setup w v p ps h world g is) (g.lines v w)).0
 
 outside : (w : ℕ) (incoming : Incoming) (h : List Event) → IsInput w h incoming → IsOutside incoming
 outside w (TakesPacket from p) h i = i
@@ -43,13 +44,14 @@ outside w (ClockReads t) h i = tt
 outside w Reaps h i = tt
 outside w (Posts c body) h i = tt
 outside w (Subscribes k list start) h i = tt
+outside w (Removes c) h i = tt
 outside w (Informs c) h i = tt
 
 module _ (setup : Setup) (is : IsSetup setup) where
   -- ---- a worker handles something
 
   module _ (w : ℕ) (incoming : Incoming) (h : List Event) (world : World) (g : Good setup h world) (right : IsRight setup w incoming) where
-    owner_after : Themed setup w (KeepsFact setup w) (keeps_theme setup w) (owns w incoming world).after.row (owns w incoming world).after.counts (onto (handled_events setup w incoming world) (own w h)) (owns w incoming world).after.owner
+    owner_after : Themed setup w (KeepsFact setup w) (keeps_theme setup w) (owns w incoming world).last.after.row (owns w incoming world).last.after.counts (onto (handled_events setup w incoming world) (own w h)) (owns w incoming world).last.after.owner
     owner_after = step_themed setup is w incoming h world g (KeepsFact setup w) (keeps_theme setup w) right (g.keeps w)
 
     whole : AllByRecursion IsUntaken (handled_events setup w incoming world) → AreNumbered (world.workers w).next (handled_events setup w incoming world) → AllByRecursion (MakesRightly setup.workers) (handled_events setup w incoming world)
@@ -60,17 +62,19 @@ module _ (setup : Setup) (is : IsSetup setup) where
       numbered = numbered;
       right = rightly;
       keeps = owner_after.base.keeps;
+      owns = owner_after.base.own;
       holds = owner_after.base.holds;
       knows = (served_well setup is w incoming (world.workers w).desk (g.knows w)).1;
     }
 
   input_acts : (w : ℕ) (incoming : Incoming) (h : List Event) (world : World) → Good setup h world → IsOutside incoming → ActsWell setup w h world (handled_events setup w incoming world) (owns w incoming world) (serves setup w incoming world)
   input_acts w (TakesPacket from p) h world g i = absurd i
-  input_acts w (ClockReads t) h world g i = whole w (ClockReads t) h world g tt (tt, rest_untaken setup is w (ClockReads t) h world g) (rest_numbered setup is w (ClockReads t) h world g) (tt, rest_right setup is w (ClockReads t) h world g)
-  input_acts w Reaps h world g i = whole w Reaps h world g tt (rest_untaken setup is w Reaps h world g) (rest_numbered setup is w Reaps h world g) (rest_right setup is w Reaps h world g)
-  input_acts w (Posts c body) h world g i = whole w (Posts c body) h world g tt (tt, rest_untaken setup is w (Posts c body) h world g) (rest_numbered setup is w (Posts c body) h world g) (tt, rest_right setup is w (Posts c body) h world g)
-  input_acts w (Subscribes k list start) h world g i = whole w (Subscribes k list start) h world g tt (tt, rest_untaken setup is w (Subscribes k list start) h world g) (rest_numbered setup is w (Subscribes k list start) h world g) (tt, rest_right setup is w (Subscribes k list start) h world g)
-  input_acts w (Informs c) h world g i = whole w (Informs c) h world g tt (tt, rest_untaken setup is w (Informs c) h world g) (rest_numbered setup is w (Informs c) h world g) (tt, rest_right setup is w (Informs c) h world g)
+  input_acts w (ClockReads t) h world g i = whole w (ClockReads t) h world g tt (tt, rest_untaken setup is w (ClockReads t) h world g) (rest_numbered setup is w (ClockReads t) h world g) (tt, rest_right setup is w (ClockReads t) h world g tt)
+  input_acts w Reaps h world g i = whole w Reaps h world g tt (rest_untaken setup is w Reaps h world g) (rest_numbered setup is w Reaps h world g) (rest_right setup is w Reaps h world g tt)
+  input_acts w (Posts c body) h world g i = whole w (Posts c body) h world g tt (tt, rest_untaken setup is w (Posts c body) h world g) (rest_numbered setup is w (Posts c body) h world g) (tt, rest_right setup is w (Posts c body) h world g tt)
+  input_acts w (Subscribes k list start) h world g i = whole w (Subscribes k list start) h world g tt (tt, rest_untaken setup is w (Subscribes k list start) h world g) (rest_numbered setup is w (Subscribes k list start) h world g) (tt, rest_right setup is w (Subscribes k list start) h world g tt)
+  input_acts w (Removes c) h world g i = whole w (Removes c) h world g tt (tt, rest_untaken setup is w (Removes c) h world g) (rest_numbered setup is w (Removes c) h world g) (tt, rest_right setup is w (Removes c) h world g tt)
+  input_acts w (Informs c) h world g i = whole w (Informs c) h world g tt (tt, rest_untaken setup is w (Informs c) h world g) (rest_numbered setup is w (Informs c) h world g) (tt, rest_right setup is w (Informs c) h world g tt)
 
   -- so what comes from outside keeps what is good, whatever it is
   pub outside_good : (w : ℕ) (incoming : Incoming) (h : List Event) (world : World) → Good setup h world → IsOutside incoming → Good setup (onto (handled_events setup w incoming world) h) (handled setup w incoming world)
@@ -83,14 +87,16 @@ module _ (setup : Setup) (is : IsSetup setup) where
       let took = Took w v p.number (kind_of p.line) in
       let new = took_good setup w v p ps h world g at in
       let ring = with_ring v w ps world in
-      let owner = owner_after w (TakesPacket v p) h world g (there, taken_right setup w v p ps h world g at) in
+      let right : IsRight setup w (TakesPacket v p) = (there, taken_right setup w v p ps h world g at) in
+      let owner = owner_after w (TakesPacket v p) h world g right in
       record {
         by = rest_by setup is w (TakesPacket v p) (took ∷ h) ring new;
         untaken = rest_untaken setup is w (TakesPacket v p) (took ∷ h) ring new;
         numbered = rest_numbered setup is w (TakesPacket v p) (took ∷ h) ring new;
-        right = rest_right setup is w (TakesPacket v p) (took ∷ h) ring new;
-        keeps = subst (λ (l : List Event). KeepsFact setup w (owns w (TakesPacket v p) world).after.row (onto (rest setup w (TakesPacket v p) world) l) (owns w (TakesPacket v p) world).after.owner)
+        right = rest_right setup is w (TakesPacket v p) (took ∷ h) ring new right;
+        keeps = subst (λ (l : List Event). KeepsFact setup w (owns w (TakesPacket v p) world).last.after.row (onto (rest setup w (TakesPacket v p) world) l) (owns w (TakesPacket v p) world).last.after.owner)
             (sym (own_one w took h (eqb_self w))) owner.base.keeps;
+        owns = owner.base.own;
         holds = owner.base.holds;
         knows = (served_well setup is w (TakesPacket v p) (world.workers w).desk (g.knows w)).1;
       }
@@ -104,11 +110,11 @@ module _ (setup : Setup) (is : IsSetup setup) where
       (took_good setup w v p ps h world g at) (packet_acts w v p ps h world there at g)
 
   counts_good : (n : ℕ) (h : List Event) (world : World) → Good setup h world → Good setup (onto (counted n) h) world
-  counts_good zero h world g = record { queues = g.queues; posted = (g.posted, tt); follow = g.follow; lines = g.lines; keeps = g.keeps; holds = g.holds; knows = g.knows }
-  counts_good (suc n) h world g = record { queues = g.queues; posted = (g.posted, tt); follow = g.follow; lines = g.lines; keeps = g.keeps; holds = g.holds; knows = g.knows }
+  counts_good zero h world g = record { queues = g.queues; posted = (g.posted, tt); follow = g.follow; lines = g.lines; keeps = g.keeps; owns = g.owns; holds = g.holds; knows = g.knows }
+  counts_good (suc n) h world g = record { queues = g.queues; posted = (g.posted, tt); follow = g.follow; lines = g.lines; keeps = g.keeps; owns = g.owns; holds = g.holds; knows = g.knows }
 
   rests_good : (n : ℕ) (h : List Event) (world : World) → Good setup h world → Good setup (onto (rested n) h) world
-  rests_good zero h world g = record { queues = g.queues; posted = (g.posted, tt); follow = g.follow; lines = g.lines; keeps = g.keeps; holds = g.holds; knows = g.knows }
+  rests_good zero h world g = record { queues = g.queues; posted = (g.posted, tt); follow = g.follow; lines = g.lines; keeps = g.keeps; owns = g.owns; holds = g.holds; knows = g.knows }
   rests_good (suc n) h world g = g
 
   pub move_good : (m : Move) (h : List Event) (world : World) → Good setup h world → IsMove setup h m → Good setup (onto (move_events setup m world) h) (moved setup m world)
@@ -125,6 +131,7 @@ module _ (setup : Setup) (is : IsSetup setup) where
     follow = λ v to. omega arith;
     lines = λ v w. tt;
     keeps = λ v. (keeps_theme setup v).new;
+    owns = λ v. new_owns v setup.workers setup.slots setup.first;
     holds = λ v. holding_laws.new_holds_fit setup.slots;
     knows = λ v. refl;
   }

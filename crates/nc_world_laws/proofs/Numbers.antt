@@ -8,14 +8,19 @@ use Rattle.nc_journal.specs.declared.event.Event.TheVariants.{Granted, Made, Too
 use Rattle.nc_journal.specs.declared.alert.AlertLine.{AlertLine}
 use Rattle.nc_journal.specs.declared.word.AlertKind.{AlertKind}
 use Rattle.nc_owner.specs.AlertLines.{OutLine}
-use Rattle.nc_owner_laws.specs.Weave.{weave, makes, numbered}
+use Rattle.nc_reaper.specs.Reap.{Step}
+use Rattle.nc_owner_laws.specs.Reaping.{steps_woven, next_behind}
+use Rattle.nc_owner_laws.specs.Sweeping.{AllEvents}
+use Rattle.nc_owner_laws.specs.Weave.{weave, makes, numbered, numbered_by}
 use Rattle.nc_history.specs.Packets.{Packet, packet, is_pair, pending, made_count, took_count, FirstIs, IsPosted}
 use Rattle.nc_worker_state.specs.Deed.{Deed, Does, Makes, told, next_after}
+use Rattle.nc_worker_state.specs.Owned.{OwnersPart}
+use Rattle.nc_worker_state.specs.Worker.{woven, part_woven}
 use Rattle.nc_world_laws.specs.Kinds.{IsBy, IsUntaken, IsUnmade}
 use Rattle.nc_world_laws.specs.Good.{NumbersFollow}
 use Rattle.nc_world_laws.proofs.Local.{eq_of, differs}
 use Rattle.nc_world_laws.proofs.Queues.{other_case}
-use Rattle.nc_world_laws.proofs.Telling.{AllDo}
+use Rattle.nc_world_laws.proofs.Telling.{AllDo, PartEvents}
 
 -- each alert that some events make has the next number to its receiver
 abbrev pub AreNumbered : (ℕ → ℕ) → List Event → Type 0
@@ -43,6 +48,41 @@ weave_numbered w next (Granted v g slot to ∷ es) [] un = weave_numbered w next
 weave_numbered w next (Granted v g slot to ∷ es) (a ∷ alerts) un = (refl, weave_numbered w (numbered next a.to) es alerts un.1)
 weave_numbered w next (Made v to n a ∷ es) alerts un = absurd un.0
 weave_numbered w next (e ∷ es) alerts un = weave_numbered w next es alerts un.1
+
+-- the numbers behind an owner's events and alerts in one list are those behind the alerts
+makes_next : (w : ℕ) (next : ℕ → ℕ) (alerts : List OutLine) → next_after next (makes w next alerts) ≡ numbered_by next alerts
+makes_next w next [] = refl
+makes_next w next (a ∷ alerts) = makes_next w (numbered next a.to) alerts
+
+pub weave_next : (w : ℕ) (next : ℕ → ℕ) (es : List Event) (alerts : List OutLine) → AllByRecursion IsUnmade es → next_after next (weave w next es alerts) ≡ numbered_by next alerts
+weave_next w next [] alerts un = makes_next w next alerts
+weave_next w next (Granted v g slot to ∷ es) [] un = weave_next w next es [] un.1
+weave_next w next (Granted v g slot to ∷ es) (a ∷ alerts) un = weave_next w (numbered next a.to) es alerts un.1
+weave_next w next (Made v to n a ∷ es) alerts un = absurd un.0
+weave_next w next (e ∷ es) alerts un = weave_next w next es alerts un.1
+
+-- so it is of steps, one after the other
+pub steps_next : (w : ℕ) (next : ℕ → ℕ) (steps : List Step) → AllEvents IsUnmade steps → next_after next (steps_woven w next steps) ≡ next_behind next steps
+steps_next w next [] un = refl
+steps_next w next (x ∷ steps) un =
+    let one = weave w next x.events x.alerts in
+    let more = steps_woven w (numbered_by next x.alerts) steps in
+    next_append next one more ∙ ap (λ (n : ℕ → ℕ). next_after n more) (weave_next w next x.events x.alerts un.0) ∙ steps_next w (numbered_by next x.alerts) steps un.1
+
+pub steps_numbered : (w : ℕ) (next : ℕ → ℕ) (steps : List Step) → AllEvents IsUnmade steps → AreNumbered next (steps_woven w next steps)
+steps_numbered w next [] un = tt
+steps_numbered w next (x ∷ steps) un =
+    let one = weave w next x.events x.alerts in
+    let more = steps_woven w (numbered_by next x.alerts) steps in
+    numbered_append next one more (weave_numbered w next x.events x.alerts un.0)
+    (subst (λ (n : ℕ → ℕ). AreNumbered n more) (sym (weave_next w next x.events x.alerts un.0)) (steps_numbered w (numbered_by next x.alerts) steps un.1))
+
+-- and of an owner's part
+pub part_numbered : (w : ℕ) (next : ℕ → ℕ) (p : OwnersPart) → PartEvents IsUnmade p → AreNumbered next (part_woven w next p)
+part_numbered w next p un =
+    let last = woven w (next_behind next p.sweeps) p.last in
+    numbered_append next (steps_woven w next p.sweeps) last (steps_numbered w next p.sweeps un.0)
+    (subst (λ (n : ℕ → ℕ). AreNumbered n last) (sym (steps_next w next p.sweeps un.0)) (weave_numbered w (next_behind next p.sweeps) p.last.events p.last.alerts un.1))
 
 does_numbered : (next : ℕ → ℕ) (e : Event) (es : List Event) → IsUnmade e → AreNumbered next es → AreNumbered next (e ∷ es)
 does_numbered next (Made w to n a) es un k = absurd un

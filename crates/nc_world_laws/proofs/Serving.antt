@@ -4,7 +4,7 @@ use Rattle.nc_types.specs.declared.info.Info.{Info}
 use Rattle.nc_journal.specs.declared.alert.AlertLine.{AlertLine}
 use Rattle.nc_journal.specs.declared.alert.AlertLine.TheVariants as lines
 use Rattle.nc_worker_state.specs.Setup.{Setup}
-use Rattle.nc_worker_state.specs.Incoming.{Incoming, TakesPacket, ClockReads, Reaps, Posts, Subscribes, Informs}
+use Rattle.nc_worker_state.specs.Incoming.{Incoming, TakesPacket, ClockReads, Reaps, Posts, Subscribes, Removes, Informs}
 use Rattle.nc_worker_state.specs.Spooled.{found_by, found_in}
 use Rattle.nc_worker_state.specs.Desk.{Desk, Served, replied, is_waiting, handled, settled, begun, served}
 use Rattle.nc_world.specs.Reached.{IsSetup}
@@ -46,6 +46,7 @@ module _ (setup : Setup) (is : IsSetup setup) (me : ℕ) where
   begun_well Reaps d knows = (tt, knows)
   begun_well (Posts c body) d knows = (((refl, is.1, tt), tt), knows)
   begun_well (Subscribes k list start) d knows = arrives_well setup.workers me d.spools knows k list start true
+  begun_well (Removes c) d knows = ((refl, tt), knows)
   begun_well (Informs c) d knows = ((refl, tt), knows)
 
   pub served_well : (incoming : Incoming) (d : Desk) → d.spools.workers ≡ setup.workers → ServedWell setup.workers me (served setup me incoming d)

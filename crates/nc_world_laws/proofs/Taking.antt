@@ -4,6 +4,7 @@ use Rattle.std.specs.Prelude.{◌==◌, ◌&&◌, nat_lt}
 use Rattle.nc_journal.specs.History.{own}
 use Rattle.nc_journal.specs.declared.event.Event.{Event}
 use Rattle.nc_journal.specs.declared.event.Event.TheVariants.{Took}
+use Rattle.nc_owner_laws.specs.OwnChannels.{OwnsChannels}
 use Rattle.nc_owner_laws.specs.Reaping.{Keeps}
 use Rattle.nc_history.specs.Packets.{Packet, kind_of, pending, took_count, FirstIs, PostedAt}
 use Rattle.nc_worker_state.specs.Setup.{Setup}
@@ -19,10 +20,10 @@ use Rattle.nc_world_laws.proofs.Stepping.{aside_keeps}
 drop_first : (p : Packet) (ps out q : List Packet) → q ≡ (p ∷ ps) ++ out → drop 1 q ≡ ps ++ out
 drop_first p ps out q e = ap (drop 1) e
 
-lines_rest : (b : Bool) (workers y : ℕ) (q : List Packet) → AreLinesTo workers y q → AreLinesTo workers y (cond b (drop 1 q) q)
-lines_rest true workers y [] l = tt
-lines_rest true workers y (p ∷ ps) l = l.1
-lines_rest false workers y q l = l
+lines_rest : (b : Bool) (workers x y : ℕ) (q : List Packet) → AreLinesTo workers x y q → AreLinesTo workers x y (cond b (drop 1 q) q)
+lines_rest true workers x y [] l = tt
+lines_rest true workers x y (p ∷ ps) l = l.1
+lines_rest false workers x y q l = l
 
 -- ---- a packet is taken
 
@@ -65,8 +66,9 @@ module _ (setup : Setup) (w v : ℕ) (p : Packet) (ps : List Packet) (h : List E
     queues = took_queues;
     posted = (g.posted, took_posted);
     follow = g.follow;
-    lines = λ x y. lines_rest ((x == v) && (y == w)) setup.workers y (pending x y h) (g.lines x y);
+    lines = λ x y. lines_rest ((x == v) && (y == w)) setup.workers x y (pending x y h) (g.lines x y);
     keeps = took_keeps;
+    owns = g.owns;
     holds = g.holds;
     knows = g.knows;
   }
@@ -75,7 +77,7 @@ module _ (setup : Setup) (w v : ℕ) (p : Packet) (ps : List Packet) (h : List E
 
 pub carried_good : (setup : Setup) (w v : ℕ) (outbox : List Packet) (h : List Event) (world : World) → (world.workers w).outbox v ≡ outbox → Good setup h world → Good setup h (carried w v outbox world)
 carried_good setup w v [] h world is g = g
-carried_good setup w v (p ∷ ps) h world is g = either (Good setup h) (nat_lt (length (world.rings w v)) ring_size) (carried_one w v p ps world) world (record { queues = λ x y. queues x y (x == w) (y == v) refl refl; posted = g.posted; follow = follow; lines = g.lines; keeps = keeps; holds = g.holds; knows = knows }) g
+carried_good setup w v (p ∷ ps) h world is g = either (Good setup h) (nat_lt (length (world.rings w v)) ring_size) (carried_one w v p ps world) world (record { queues = λ x y. queues x y (x == w) (y == v) refl refl; posted = g.posted; follow = follow; lines = g.lines; keeps = keeps; owns = owns; holds = g.holds; knows = knows }) g
   where
     queues : (x y : ℕ) (b c : Bool) → (x == w) ≡ b → (y == v) ≡ c → pending x y h ≡ (cond b (λ z. cond (z == v) (world.rings w v ++ p ∷ []) (world.rings w z)) (world.rings x)) y ++ (cond b (record (world.workers w) { outbox = with_at (world.workers w).outbox v ps }) (world.workers x)).outbox y
     queues x y true true e k = subst (λ (z : ℕ × ℕ). pending z.0 z.1 h ≡ cond (z.1 == v) (world.rings w v ++ p ∷ []) (world.rings w z.1) ++ cond (z.1 == v) ps ((world.workers w).outbox z.1)) (λ i. (sym (eq_of x w e) i, sym (eq_of y v k) i))
@@ -92,3 +94,6 @@ carried_good setup w v (p ∷ ps) h world is g = either (Good setup h) (nat_lt (
 
     keeps : (x : ℕ) → Keeps x setup.workers setup.slots setup.first (world.rows x) (own x h) (with_at world.workers w (record (world.workers w) { outbox = with_at (world.workers w).outbox v ps }) x).owner
     keeps = with_all (λ x (s : WorkerAt). Keeps x setup.workers setup.slots setup.first (world.rows x) (own x h) s.owner) world.workers w (record (world.workers w) { outbox = with_at (world.workers w).outbox v ps }) (g.keeps w) (λ x e. g.keeps x)
+
+    owns : (x : ℕ) → OwnsChannels setup.workers x (with_at world.workers w (record (world.workers w) { outbox = with_at (world.workers w).outbox v ps }) x).owner
+    owns = with_all (λ x (s : WorkerAt). OwnsChannels setup.workers x s.owner) world.workers w (record (world.workers w) { outbox = with_at (world.workers w).outbox v ps }) (g.owns w) (λ x e. g.owns x)

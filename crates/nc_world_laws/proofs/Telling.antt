@@ -9,11 +9,16 @@ use Rattle.nc_journal.specs.declared.event.Event.TheVariants.{Answered, Started,
 use Rattle.nc_owner.specs.AlertLines.{OutLine}
 use Rattle.nc_owner_laws.specs.Aside.{IsPlainLine, IsAside}
 use Rattle.nc_owner_laws.specs.Kinds.{IsOfOwner}
-use Rattle.nc_owner_laws.specs.Weave.{weave, makes, numbered}
+use Rattle.nc_reaper.specs.Reap.{Step}
+use Rattle.nc_owner_laws.specs.Reaping.{steps_woven, next_behind}
+use Rattle.nc_owner_laws.specs.Sweeping.{AllEvents, AllAlerts}
+use Rattle.nc_owner_laws.specs.Weave.{weave, makes, numbered, numbered_by}
 use Rattle.nc_worker_state.specs.Deed.{Deed, Does, Makes, told, next_after}
+use Rattle.nc_worker_state.specs.Owned.{OwnersPart}
+use Rattle.nc_worker_state.specs.Worker.{woven, part_woven}
 use Rattle.nc_world_laws.specs.Kinds.{IsBy, IsUntaken, IsUnmade, IsOfWorker, AsksOwner, AreDeeds}
 use Rattle.nc_world_laws.specs.Good.{IsLineTo}
-use Rattle.nc_world_laws.proofs.Local.{eqb_of}
+use Rattle.nc_world_laws.proofs.Local.{eqb_of, all_of, all_append}
 
 -- ---- deeds
 
@@ -74,6 +79,20 @@ weave_nothing w next [] = refl
 weave_nothing w next (Granted v g slot to ∷ es) = ap (λ (l : List Event). Granted v g slot to ∷ l) (weave_nothing w next es)
 weave_nothing w next (e ∷ es) = ap (λ (l : List Event). e ∷ l) (weave_nothing w next es)
 
+-- so of each event, and of each alert, of an owner's part
+abbrev pub PartEvents : (Event → Type 0) → OwnersPart → Type 0
+PartEvents P p = AllEvents P p.sweeps × AllByRecursion P p.last.events
+
+abbrev pub PartAlerts : (OutLine → Type 0) → OwnersPart → Type 0
+PartAlerts Q p = AllAlerts Q p.sweeps × AllByRecursion Q p.last.alerts
+
+-- where it is so, what follows from it is so too
+pub all_events_of : (P Q : Event → Type 0) → ((e : Event) → P e → Q e) → (p : OwnersPart) → PartEvents P p → PartEvents Q p
+all_events_of P Q f p a = (all_of (λ x. AllByRecursion P x.events) (λ x. AllByRecursion Q x.events) (λ x b. all_of P Q f x.events b) p.sweeps a.0, all_of P Q f p.last.events a.1)
+
+pub all_alerts_of : (P Q : OutLine → Type 0) → ((a : OutLine) → P a → Q a) → (p : OwnersPart) → PartAlerts P p → PartAlerts Q p
+all_alerts_of P Q f p a = (all_of (λ x. AllByRecursion P x.alerts) (λ x. AllByRecursion Q x.alerts) (λ x b. all_of P Q f x.alerts b) p.sweeps a.0, all_of P Q f p.last.alerts a.1)
+
 module _ (P : Event → Type 0) (Q : OutLine → Type 0) (v : ℕ) (m : (n : ℕ) (a : OutLine) → Q a → P (Made v a.to n a.line)) where
   makes_made : (next : ℕ → ℕ) (alerts : List OutLine) → AllByRecursion Q alerts → AllByRecursion P (makes v next alerts)
   makes_made next [] q = tt
@@ -86,12 +105,32 @@ module _ (P : Event → Type 0) (Q : OutLine → Type 0) (v : ℕ) (m : (n : ℕ
   woven_made next (Granted w g slot to ∷ es) (a ∷ alerts) p q = (p.0, (m (next a.to) a q.0, woven_made (numbered next a.to) es alerts p.1 q.1))
   woven_made next (e ∷ es) alerts p q = (p.0, woven_made next es alerts p.1 q)
 
+  -- and so of steps, one after the other
+  pub steps_made : (next : ℕ → ℕ) (steps : List Step) → AllEvents P steps → AllAlerts Q steps → AllByRecursion P (steps_woven v next steps)
+  steps_made next [] p q = tt
+  steps_made next (x ∷ steps) p q =
+      all_append P (weave v next x.events x.alerts) (steps_woven v (numbered_by next x.alerts) steps)
+      (woven_made next x.events x.alerts p.0 q.0) (steps_made (numbered_by next x.alerts) steps p.1 q.1)
+
+  -- and of an owner's part
+  pub woven_part : (next : ℕ → ℕ) (p : OwnersPart) → PartEvents P p → PartAlerts Q p → AllByRecursion P (part_woven v next p)
+  woven_part next p a b =
+      all_append P (steps_woven v next p.sweeps) (woven v (next_behind next p.sweeps) p.last)
+      (steps_made next p.sweeps a.0 b.0) (woven_made (next_behind next p.sweeps) p.last.events p.last.alerts a.1 b.1)
+
 any_line : (alerts : List OutLine) → AllByRecursion (λ (a : OutLine). Unit {0}) alerts
 any_line [] = tt
 any_line (a ∷ alerts) = (tt, any_line alerts)
 
 pub woven_all : (P : Event → Type 0) (v : ℕ) (next : ℕ → ℕ) → ((to n : ℕ) (a : AlertLine) → P (Made v to n a)) → (es : List Event) (alerts : List OutLine) → AllByRecursion P es → AllByRecursion P (weave v next es alerts)
 woven_all P v next m es alerts p = woven_made P (λ (a : OutLine). Unit {0}) v (λ n a q. m a.to n a.line) next es alerts p (any_line alerts)
+
+any_lines : (steps : List Step) → AllAlerts (λ (a : OutLine). Unit {0}) steps
+any_lines [] = tt
+any_lines (x ∷ steps) = (any_line x.alerts, any_lines steps)
+
+pub woven_part_all : (P : Event → Type 0) (v : ℕ) (next : ℕ → ℕ) → ((to n : ℕ) (a : AlertLine) → P (Made v to n a)) → (p : OwnersPart) → PartEvents P p → AllByRecursion P (part_woven v next p)
+woven_part_all P v next m p a = woven_part P (λ (a : OutLine). Unit {0}) v (λ n a q. m a.to n a.line) next p a (any_lines p.sweeps, any_line p.last.alerts)
 
 -- ---- kinds
 
@@ -105,6 +144,7 @@ by_owner me (Looked w q from number c after floor found) p = eqb_of me w p
 by_owner me (Edged w q from number k c floor last) p = eqb_of me w p
 by_owner me (Granted w g slot to) p = eqb_of me w p
 by_owner me (Freed w slot) p = eqb_of me w p
+by_owner me (Removed w c last cause) p = eqb_of me w p
 by_owner me e p = absurd p
 
 pub unmade_owner : (me : ℕ) (e : Event) → IsOfOwner me e → IsUnmade e
@@ -146,15 +186,15 @@ aside_worker me (Removed w c last cause) p = absurd p
 aside_worker me (Made w to n a) p = absurd p
 aside_worker me e p = tt
 
-pub line_asked : (workers to : ℕ) (a : AlertLine) → AsksOwner workers to a → IsLineTo workers to a
-line_asked workers to (lines.Publish r c len timeout ct body) p = p
-line_asked workers to (lines.Look number c after fence) p = p
-line_asked workers to (lines.Edge number k c fence) p = p
-line_asked workers to (lines.Join c k) p = p
-line_asked workers to (lines.Part c k) p = p
-line_asked workers to (lines.Delete r c) p = p
-line_asked workers to (lines.Info r c) p = p
-line_asked workers to a p = absurd p
+pub line_asked : (workers from to : ℕ) (a : AlertLine) → AsksOwner workers to a → IsLineTo workers from to a
+line_asked workers from to (lines.Publish r c len timeout ct body) p = p
+line_asked workers from to (lines.Look number c after fence) p = p
+line_asked workers from to (lines.Edge number k c fence) p = p
+line_asked workers from to (lines.Join c k) p = p
+line_asked workers from to (lines.Part c k) p = p
+line_asked workers from to (lines.Delete r c) p = p
+line_asked workers from to (lines.Info r c) p = p
+line_asked workers from to a p = absurd p
 
 pub plain_asked : (workers to : ℕ) (a : AlertLine) → AsksOwner workers to a → IsPlainLine a
 plain_asked workers to (lines.LookAnswer number q floor found g slot) p = absurd p

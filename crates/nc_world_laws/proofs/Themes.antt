@@ -5,7 +5,7 @@ use Rattle.nc_journal.specs.History.{own, onto}
 use Rattle.nc_journal.specs.declared.event.Event.{Event}
 use Rattle.nc_history.specs.Packets.{Packet}
 use Rattle.nc_worker_state.specs.Setup.{Setup}
-use Rattle.nc_worker_state.specs.Incoming.{Incoming, TakesPacket, ClockReads, Reaps, Posts, Subscribes, Informs}
+use Rattle.nc_worker_state.specs.Incoming.{Incoming, TakesPacket, ClockReads, Reaps, Posts, Subscribes, Removes, Informs}
 use Rattle.nc_worker_state.specs.Worker.{with_at, dealt_worker}
 use Rattle.nc_world.specs.World.{World, handled_events, handled, pending_in}
 use Rattle.nc_world.specs.Moves.{Move, Handles, Carries, Takes, Counts, Rests, counted, rested, taken_events, taken, carried, carried_one, ring_size, move_events, moved}
@@ -24,6 +24,7 @@ input_right setup w h (ClockReads t) i = tt
 input_right setup w h Reaps i = tt
 input_right setup w h (Posts c body) i = tt
 input_right setup w h (Subscribes k list start) i = tt
+input_right setup w h (Removes c) i = tt
 input_right setup w h (Informs c) i = tt
 
 module _ (setup : Setup) (is : IsSetup setup) (me : ℕ) (P : OwnerFact) (theme : IsOwnerTheme setup me P) where
@@ -32,17 +33,17 @@ module _ (setup : Setup) (is : IsSetup setup) (me : ℕ) (P : OwnerFact) (theme 
 
   -- the worker itself
   mine : (w : ℕ) (incoming : Incoming) (h : List Event) (world : World) → Good setup h world → IsRight setup w incoming → me ≡ w → Here h world
-      → P (owns w incoming world).after.row (own me (onto (handled_events setup w incoming world) h)) (owns w incoming world).after.owner
+      → P (owns w incoming world).last.after.row (own me (onto (handled_events setup w incoming world) h)) (owns w incoming world).last.after.owner
   mine w incoming h world g right e p =
       let mine_right = subst (λ (x : ℕ). IsRight setup x incoming) (sym e) right in
       let t = step_themed setup is me incoming h world g P theme mine_right p in
-      subst (λ (x : ℕ). P (owns x incoming world).after.row (own me (onto (handled_events setup x incoming world) h)) (owns x incoming world).after.owner) e
-      (subst (λ (l : List Event). P (owns me incoming world).after.row l (owns me incoming world).after.owner) (sym (own_onto me (handled_events setup me incoming world) h (step_by setup is me incoming h world g))) t.fact)
+      subst (λ (x : ℕ). P (owns x incoming world).last.after.row (own me (onto (handled_events setup x incoming world) h)) (owns x incoming world).last.after.owner) e
+      (subst (λ (l : List Event). P (owns me incoming world).last.after.row l (owns me incoming world).last.after.owner) (sym (own_onto me (handled_events setup me incoming world) h (step_by setup is me incoming h world g))) t.fact)
 
   handled_here : (w : ℕ) (incoming : Incoming) (h : List Event) (world : World) → Good setup h world → IsRight setup w incoming → Here h world → Here (onto (handled_events setup w incoming world) h) (handled setup w incoming world)
   handled_here w incoming h world g right p = by (me == w) refl
     where
-      by : (b : Bool) → (me == w) ≡ b → P (cond b (owns w incoming world).after.row (world.rows me)) (own me (onto (handled_events setup w incoming world) h))
+      by : (b : Bool) → (me == w) ≡ b → P (cond b (owns w incoming world).last.after.row (world.rows me)) (own me (onto (handled_events setup w incoming world) h))
           (cond b (dealt_worker (handled_events setup w incoming world) (owns w incoming world) (serves setup w incoming world) (world.workers w)) (world.workers me)).owner
       by true e = mine w incoming h world g right (eq_of me w e) p
       by false e = subst (λ (l : List Event). P (world.rows me) l (world.workers me).owner) (sym (own_other me w (handled_events setup w incoming world) h e (step_by setup is w incoming h world g))) p

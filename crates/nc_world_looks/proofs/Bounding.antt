@@ -6,7 +6,7 @@ use Rattle.nc_journal.specs.declared.event.Event.{Event}
 use Rattle.nc_journal.specs.declared.event.Event.TheVariants.{Took}
 use Rattle.nc_history.specs.Packets.{Packet, kind_of, pending, sent_lines, lines_of}
 use Rattle.nc_worker_state.specs.Setup.{Setup}
-use Rattle.nc_worker_state.specs.Incoming.{Incoming, TakesPacket, ClockReads, Reaps, Posts, Subscribes, Informs}
+use Rattle.nc_worker_state.specs.Incoming.{Incoming, TakesPacket, ClockReads, Reaps, Posts, Subscribes, Removes, Informs}
 use Rattle.nc_worker_state.specs.Worker.{sent_to}
 use Rattle.nc_world.specs.World.{World, handled_events}
 use Rattle.nc_world.specs.Moves.{with_ring}
@@ -34,6 +34,7 @@ none_came n w x (ClockReads t) h i = refl
 none_came n w x Reaps h i = refl
 none_came n w x (Posts c body) h i = refl
 none_came n w x (Subscribes k list start) h i = refl
+none_came n w x (Removes c) h i = refl
 none_came n w x (Informs c) h i = refl
 
 at_most : (b : Bool) (k m : ℕ) → k ≤ m → cond b k 0 ≤ m

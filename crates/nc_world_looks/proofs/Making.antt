@@ -24,7 +24,7 @@ use Rattle.nc_world_laws.specs.Good.{Good}
 use Rattle.nc_world_laws.proofs.Local.{eqb_self, eq_of, differs}
 use Rattle.nc_world_laws.proofs.Parts.{owns, before, part, behind, of}
 use Rattle.nc_world_holds.specs.Balance.{one_if}
-use Rattle.nc_world_requests.proofs.Weighing.{made_for, out_for, made_append, weave_out}
+use Rattle.nc_world_requests.proofs.Weighing.{made_for, out_for, made_append, part_out}
 use Rattle.nc_world_looks.specs.Looks.{looking, looked, weigh}
 
 module _ (f : AlertLine → ℕ) where
@@ -101,6 +101,6 @@ module _ (setup : Setup) (is : IsSetup setup) (w from : ℕ) (p : Packet) (h : L
         arith,
         made_append f from (before setup w i world ++ part w i world) (behind setup w i world),
         made_append f from (before setup w i world) (part w i world),
-        weave_out f from w w (world.workers w).next (owns w i world).events (owns w i world).alerts (of setup is w i h world g),
+        part_out f from w w (world.workers w).next (owns w i world) (of setup is w i h world g),
         owner_looked n from (line_polls p.line (holding w (seat w world))) p.line (holding w (seat w world)),
       )

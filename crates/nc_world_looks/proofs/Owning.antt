@@ -15,8 +15,12 @@ use Rattle.nc_owner.specs.State.{Bench, exists}
 use Rattle.nc_owner.specs.Publish.{Polls, Outcome, late, full, stored, notices, asked, roomy, stamp, lowest_slot, post_alerts, publish_outcome, publish_cleared}
 use Rattle.nc_owner.specs.Look.{found_on, found_line, look_ready}
 use Rattle.nc_owner.specs.Fence.{with_floor}
+use Rattle.nc_owner.specs.Remove.{delete_alerts}
+use Rattle.nc_reaper.specs.Reap.{Step}
+use Rattle.nc_owner_laws.specs.Sweeping.{AllAlerts}
+use Rattle.nc_owner_laws.proofs.Sweeping.{deletion_told}
 use Rattle.nc_worker_state.specs.Setup.{Setup}
-use Rattle.nc_worker_state.specs.Incoming.{Incoming, TakesPacket, ClockReads, Reaps, Posts, Subscribes, Informs}
+use Rattle.nc_worker_state.specs.Incoming.{Incoming, TakesPacket, ClockReads, Reaps, Posts, Subscribes, Removes, Informs}
 use Rattle.nc_worker_state.specs.Deed.{Deed, Does, Makes, next_after}
 use Rattle.nc_worker_state.specs.Owned.{Holding, order_of, line_polls, owned_by}
 use Rattle.nc_worker_state.specs.Worker.{holding}
@@ -24,9 +28,9 @@ use Rattle.nc_world.specs.World.{World, seat, handled_events}
 use Rattle.nc_world.specs.Reached.{IsSetup}
 use Rattle.nc_world_laws.specs.Kinds.{AsksOwner, AreDeeds}
 use Rattle.nc_world_laws.specs.Good.{Good}
-use Rattle.nc_world_laws.proofs.Parts.{owns, serves, before, part, behind, of, well}
+use Rattle.nc_world_laws.proofs.Parts.{owns, serves, before, part, behind, of, part_alerts, well}
 use Rattle.nc_world_holds.specs.Balance.{one_if}
-use Rattle.nc_world_requests.proofs.Weighing.{made_for, out_for, deeds_for, made_append, weave_out, told_out}
+use Rattle.nc_world_requests.proofs.Weighing.{made_for, out_for, steps_for, part_for, deeds_for, made_append, part_out, told_out}
 use Rattle.nc_world_looks.specs.Looks.{looking, looked}
 
 module _ (n y : ℕ) where
@@ -41,6 +45,10 @@ module _ (n y : ℕ) where
   plain_out : (alerts : List OutLine) → AllByRecursion IsPlainOut alerts → out_for (looked n) y alerts ≡ 0
   plain_out [] p = refl
   plain_out (a ∷ alerts) p = nothing_for (y == a.to) (looked n a.line) _ p.0 (plain_out alerts p.1)
+
+  steps_plain : (steps : List Step) → AllAlerts IsPlainOut steps → steps_for (looked n) y steps ≡ 0
+  steps_plain [] p = refl
+  steps_plain (x ∷ steps) p = omega (arith, plain_out x.alerts p.0, steps_plain steps p.1)
 
   notices_plain : (c : List ℕ) (id : Id) (slot g : ℕ) (marks : List ℕ) (more : List OutLine) → AllByRecursion IsPlainOut more → AllByRecursion IsPlainOut (notices c id slot g marks ++ more)
   notices_plain c id slot g [] more m = m
@@ -77,7 +85,9 @@ module _ (n y : ℕ) where
   owner_looks polls from (lines.LookAnswer number q floor found g slot) s = omega arith
   owner_looks polls from (lines.Notice c id g slot) s = omega arith
   owner_looks polls from (lines.EdgeAnswer number q floor last) s = omega arith
-  owner_looks polls from (lines.Delete r c) s = omega arith
+  owner_looks polls from (lines.Delete r c) s =
+      let none = plain_out (delete_alerts from r c s.row s.owner) (deletion_told IsPlainOut c (λ ms to. refl) from r s.row s.owner (λ status info is. refl)) in
+      omega (arith, none)
   owner_looks polls from (lines.DelAnswer r status info) s = omega arith
   owner_looks polls from (lines.Gone c subs) s = omega arith
   owner_looks polls from (lines.InfoAnswer r status info) s = omega arith
@@ -104,14 +114,18 @@ module _ (n y : ℕ) where
     opening_none Reaps = refl
     opening_none (Posts c body) = refl
     opening_none (Subscribes k list start) = refl
+    opening_none (Removes c) = refl
     opening_none (Informs c) = refl
 
-    owner_part : (i : Incoming) → out_for (looked n) y (owns w i world).alerts ≤ came i
-    owner_part (TakesPacket from p) = owner_looks (line_polls p.line (holding w (seat w world))) from p.line (holding w (seat w world))
+    owner_part : (i : Incoming) → part_for (looked n) y (owns w i world) ≤ came i
+    owner_part (TakesPacket from p) = let few = owner_looks (line_polls p.line (holding w (seat w world))) from p.line (holding w (seat w world)) in omega (arith, few)
     owner_part (ClockReads t) = omega arith
-    owner_part Reaps = omega arith
+    owner_part Reaps =
+        let none = steps_plain (owns w Reaps world).sweeps (part_alerts setup is w Reaps h world g IsPlainOut (λ from p e. absurd cc) (λ c subs to mine. refl)).0 in
+        omega (arith, none)
     owner_part (Posts c body) = omega arith
     owner_part (Subscribes k list start) = omega arith
+    owner_part (Removes c) = omega arith
     owner_part (Informs c) = omega arith
 
     pub step_looks : (i : Incoming) → made_for (looked n) y (handled_events setup w i world) ≤ came i
@@ -122,7 +136,7 @@ module _ (n y : ℕ) where
           made_append f y (before setup w i world ++ part w i world) (behind setup w i world),
           made_append f y (before setup w i world) (part w i world),
           opening_none i,
-          weave_out f y w w (world.workers w).next (owns w i world).events (owns w i world).alerts (of setup is w i h world g),
+          part_out f y w w (world.workers w).next (owns w i world) (of setup is w i h world g),
           owner_part i,
           told_out f y setup.workers w (next_after (world.workers w).next (part w i world)) (serves setup w i world).deeds (well setup is w i h world g),
           deeds_plain setup.workers w (serves setup w i world).deeds (well setup is w i h world g),

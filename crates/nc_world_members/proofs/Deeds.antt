@@ -7,7 +7,7 @@ use Rattle.nc_journal.specs.Standing.{Stage, Absent, Starting, Over, is_once, st
 use Rattle.nc_journal.specs.declared.event.Event.{Event}
 use Rattle.nc_journal.specs.declared.event.Event.TheVariants.{Subscribed, Started, Sent, Ended, Made}
 use Rattle.nc_journal.specs.declared.word.EndedCause.{EndedCause}
-use Rattle.nc_journal.specs.declared.word.EndedCause.TheVariants.{Answered}
+use Rattle.nc_journal.specs.declared.word.EndedCause.TheVariants.{Answered, Deleted}
 use Rattle.nc_journal.specs.declared.alert.AlertLine.{AlertLine}
 use Rattle.nc_journal.specs.declared.alert.AlertLine.TheVariants as lines
 use Rattle.nc_spool_state.specs.declared.kept.Held.{Held}
@@ -15,17 +15,16 @@ use Rattle.nc_spool_state.specs.Kept.{is_idle}
 use Rattle.nc_spool.specs.declared.fact.Fact.{Fact}
 use Rattle.nc_spool.specs.declared.fact.Fact.TheVariants as facts
 use Rattle.nc_spool.specs.declared.board.Board.{Board}
-use Rattle.nc_spool.specs.Calls.{board_of, arrive_facts, answer_facts, edge_facts, notice_facts}
+use Rattle.nc_spool.specs.Calls.{board_of, arrive_facts, answer_facts, edge_facts, notice_facts, gone_facts}
 use Rattle.nc_spool_laws.specs.Tally.{stands}
 use Rattle.nc_spool_members.specs.Stages.{stage_told, HasStage}
 use Rattle.nc_spool_members.proofs.Staging.{keep-stages}
 use Rattle.nc_owner_laws.specs.Weave.{numbered}
 use Rattle.nc_worker_state.specs.Setup.{Setup}
-use Rattle.nc_worker_state.specs.Incoming.{Incoming, TakesPacket, ClockReads, Reaps, Posts, Subscribes, Informs}
+use Rattle.nc_worker_state.specs.Incoming.{Incoming, TakesPacket, ClockReads, Reaps, Posts, Subscribes, Removes, Informs}
 use Rattle.nc_worker_state.specs.Deed.{Deed, Does, Makes, told}
 use Rattle.nc_worker_state.specs.Spooled.{Hold, found_by, found_in, facts_deeds, release, releases}
 use Rattle.nc_worker_state.specs.Desk.{Desk, Served, is_waiting, handled, settled, begun, served}
-use Rattle.nc_world_laws.specs.Good.{IsLineTo}
 use Rattle.nc_world_laws.proofs.Local.{either, eq_of}
 use Rattle.nc_world_members.proofs.Desks.{comes}
 
@@ -81,9 +80,8 @@ abbrev pub away_stage : Bool → Stage
 away_stage subscribed = cond subscribed Over Absent
 
 module _ (setup : Setup) (me k : ℕ) (subscribed : Bool) (stage : Stage) where
-  -- what comes suits a worker: no channel goes, and who comes is new
+  -- who comes is new
   abbrev pub IsFresh : Incoming → Desk → Type 0
-  IsFresh (TakesPacket from p) d = IsLineTo setup.workers me p.line
   IsFresh (Subscribes n list start) d = stands n (board_of d.spools) ≡ 0
   IsFresh incoming d = Unit {0}
 
@@ -98,24 +96,24 @@ module _ (setup : Setup) (me k : ℕ) (subscribed : Bool) (stage : Stage) where
 
   module _ (d : Desk) (has : HasStage k (away_stage subscribed) stage (board_of d.spools)) where
     -- a call of the spools
-    called : (fs : List Fact) (new : Board) → HasStage k (away_stage subscribed) (stage_told k stage fs) new → HasStage k (away_stage subscribed) (stage_done k stage (facts_deeds me Answered fs)) new
-    called fs new s = subst (λ (x : Stage). HasStage k (away_stage subscribed) x new) (sym (facts_done k me Answered fs stage)) s
+    called : (cause : EndedCause) (fs : List Fact) (new : Board) → HasStage k (away_stage subscribed) (stage_told k stage fs) new → HasStage k (away_stage subscribed) (stage_done k stage (facts_deeds me cause fs)) new
+    called cause fs new s = subst (λ (x : Stage). HasStage k (away_stage subscribed) x new) (sym (facts_done k me cause fs stage)) s
 
-    handled_stage : (from : ℕ) (line : AlertLine) → IsLineTo setup.workers me line → HasStage k (away_stage subscribed) (stage_done k stage (handled me from line d).deeds) (board_of (handled me from line d).after.spools)
-    handled_stage from (lines.PubAnswer r status info full) fit = either (λ (x : Served). HasStage k (away_stage subscribed) (stage_done k stage x.deeds) (board_of x.after.spools)) (is_waiting r d.waiting) _ _ has has
-    handled_stage from (lines.InfoAnswer r status info) fit = either (λ (x : Served). HasStage k (away_stage subscribed) (stage_done k stage x.deeds) (board_of x.after.spools)) (is_waiting r d.waiting) _ _ has has
-    handled_stage from (lines.DelAnswer r status info) fit = either (λ (x : Served). HasStage k (away_stage subscribed) (stage_done k stage x.deeds) (board_of x.after.spools)) (is_waiting r d.waiting) _ _ has has
-    handled_stage from (lines.LookAnswer number q floor past g slot) fit = called (answer_facts number q floor (found_in from past g slot) d.spools) _ (((keep-stages Hold).calls k (away_stage subscribed) stage d.spools has).answer number q floor (found_in from past g slot))
-    handled_stage from (lines.Notice c id g slot) fit = called (notice_facts c (found_by from id g slot) d.spools) _ (((keep-stages Hold).calls k (away_stage subscribed) stage d.spools has).notice c (found_by from id g slot))
-    handled_stage from (lines.EdgeAnswer number q floor last) fit = called (edge_facts number floor last d.spools) _ (((keep-stages Hold).calls k (away_stage subscribed) stage d.spools has).edge_answer number floor last)
-    handled_stage from (lines.Gone c subs) fit = absurd fit
-    handled_stage from (lines.Publish r c len timeout ct body) fit = has
-    handled_stage from (lines.Look number c after fence) fit = has
-    handled_stage from (lines.Edge number n c fence) fit = has
-    handled_stage from (lines.Join c n) fit = has
-    handled_stage from (lines.Part c n) fit = has
-    handled_stage from (lines.Delete r c) fit = has
-    handled_stage from (lines.Info r c) fit = has
+    handled_stage : (from : ℕ) (line : AlertLine) → HasStage k (away_stage subscribed) (stage_done k stage (handled me from line d).deeds) (board_of (handled me from line d).after.spools)
+    handled_stage from (lines.PubAnswer r status info full) = either (λ (x : Served). HasStage k (away_stage subscribed) (stage_done k stage x.deeds) (board_of x.after.spools)) (is_waiting r d.waiting) _ _ has has
+    handled_stage from (lines.InfoAnswer r status info) = either (λ (x : Served). HasStage k (away_stage subscribed) (stage_done k stage x.deeds) (board_of x.after.spools)) (is_waiting r d.waiting) _ _ has has
+    handled_stage from (lines.DelAnswer r status info) = either (λ (x : Served). HasStage k (away_stage subscribed) (stage_done k stage x.deeds) (board_of x.after.spools)) (is_waiting r d.waiting) _ _ has has
+    handled_stage from (lines.LookAnswer number q floor past g slot) = called Answered (answer_facts number q floor (found_in from past g slot) d.spools) _ (((keep-stages Hold).calls k (away_stage subscribed) stage d.spools has).answer number q floor (found_in from past g slot))
+    handled_stage from (lines.Notice c id g slot) = called Answered (notice_facts c (found_by from id g slot) d.spools) _ (((keep-stages Hold).calls k (away_stage subscribed) stage d.spools has).notice c (found_by from id g slot))
+    handled_stage from (lines.EdgeAnswer number q floor last) = called Answered (edge_facts number floor last d.spools) _ (((keep-stages Hold).calls k (away_stage subscribed) stage d.spools has).edge_answer number floor last)
+    handled_stage from (lines.Gone c subs) = called Deleted (gone_facts c subs d.spools) _ (((keep-stages Hold).calls k (away_stage subscribed) stage d.spools has).removal c subs)
+    handled_stage from (lines.Publish r c len timeout ct body) = has
+    handled_stage from (lines.Look number c after fence) = has
+    handled_stage from (lines.Edge number n c fence) = has
+    handled_stage from (lines.Join c n) = has
+    handled_stage from (lines.Part c n) = has
+    handled_stage from (lines.Delete r c) = has
+    handled_stage from (lines.Info r c) = has
 
     -- a subscriber comes: it is this one, or another
     came : (n : ℕ) (list : List (List ℕ)) (start : Start) → stands n (board_of d.spools) ≡ 0 → Stays (Subscribes n list start) (begun setup me (Subscribes n list start) d)
@@ -126,13 +124,14 @@ module _ (setup : Setup) (me k : ℕ) (subscribed : Bool) (stage : Stage) where
             subst (λ (x : Stage). HasStage k Over x (board_of (begun setup me (Subscribes n list start) d).after.spools)) (sym (facts_done k me Answered (arrive_facts n list start true d.spools) (Starting list true start)))
             (subst (λ (j : ℕ). HasStage k Over (stage_told k (Starting list true start) (arrive_facts j list start true d.spools)) (board_of (begun setup me (Subscribes j list start) d).after.spools)) (sym (eq_of n k same))
             ((keep-stages Hold).comes k list start true d.spools (subst (λ (j : ℕ). stands j (board_of d.spools) ≡ 0) (eq_of n k same) fresh)))
-        by false other = called (arrive_facts n list start true d.spools) _ (((keep-stages Hold).calls k (away_stage subscribed) stage d.spools has).arrive n list start true other)
+        by false other = called Answered (arrive_facts n list start true d.spools) _ (((keep-stages Hold).calls k (away_stage subscribed) stage d.spools has).arrive n list start true other)
 
     begun_stage : (incoming : Incoming) → IsFresh incoming d → Stays incoming (begun setup me incoming d)
-    begun_stage (TakesPacket from p) fresh = handled_stage from p.line fresh
+    begun_stage (TakesPacket from p) fresh = handled_stage from p.line
     begun_stage (ClockReads t) fresh = has
     begun_stage Reaps fresh = has
     begun_stage (Posts c body) fresh = has
+    begun_stage (Removes c) fresh = has
     begun_stage (Informs c) fresh = has
     begun_stage (Subscribes n list start) fresh = came n list start fresh
 

@@ -1,5 +1,6 @@
 pub mod Memberless
 pub mod Hearing
+pub mod Removing
 pub mod Desks
 pub mod Stepping
 pub mod Moving

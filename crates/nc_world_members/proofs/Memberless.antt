@@ -1,5 +1,5 @@
 -- What an owner's step makes of the members of a channel.
-use Rattle.std.proofs.Common.{◌≡◌, ℕ, ◌+◌, Bool, true, false, cond, not, List, [], ◌∷◌, ◌++◌, Option, Some, None, refl, sym, ap, ◌∙◌, map, fold}
+use Rattle.std.proofs.Common.{◌≡◌, ℕ, ◌+◌, Bool, true, false, cond, not, List, [], ◌∷◌, ◌++◌, Option, Some, None, refl, ◌∙◌, map}
 use Rattle.std.specs.Prelude.{◌&&◌, ◌||◌}
 use Rattle.std.specs.List.{AllByRecursion}
 use Rattle.nc_types.specs.Id.{Id}
@@ -18,24 +18,20 @@ use Rattle.nc_owner.specs.declared.desk.Desk.{Desk as OwnerDesk}
 use Rattle.nc_owner.specs.declared.member.Member.{Member}
 use Rattle.nc_owner.specs.declared.order.Order.{Order}
 use Rattle.nc_owner.specs.AlertLines.{OutLine}
-use Rattle.nc_owner.specs.Members.{has_member}
 use Rattle.nc_owner.specs.State.{Bench, bench_of, opened, exists}
 use Rattle.nc_owner.specs.Leave.{left_event, leavers, touched}
-use Rattle.nc_owner.specs.Poll.{freed_event, freed_events, free_slots}
+use Rattle.nc_owner.specs.Poll.{freed_event, free_slots}
 use Rattle.nc_owner.specs.Publish.{Polls, Outcome, late, stored, full as is_all, notices, answer, stamp, stored_status, store_bench, granted_events, asked, roomy, roomy_events, stored_events, leaving, lowest_slot, post_events, post_alerts, cleared_events, publish_outcome, publish_cleared, info_of}
 use Rattle.nc_owner.specs.Look.{found_on, looked_event, found_events, found_line, look_ready, look_events}
 use Rattle.nc_owner.specs.Fence.{raise_events}
 use Rattle.nc_owner.specs.Edge.{edge_events}
-use Rattle.nc_owner.specs.OtherSteps.{touch_events_of, touched_of, parted_events, names_of}
-use Rattle.nc_reaper.specs.Reap.{Swept, state, swept, swept_all}
+use Rattle.nc_owner.specs.OtherSteps.{touch_events_of, touch_after, touched_of}
+use Rattle.nc_owner.specs.Remove.{gone_line, concerned, alerts_of_removal, delete_alerts, delete_line, delete_answer}
 use Rattle.nc_owner_laws.specs.Filters.{is_same, is_member}
-use Rattle.nc_owner_laws.specs.Weave.{weave}
 use Rattle.nc_owner_laws.proofs.Fences.{raise_are, edge_are}
-use Rattle.nc_owner_laws.proofs.Stamping.{onto_append}
-use Rattle.nc_worker_state.specs.Incoming.{Incoming, TakesPacket, ClockReads, Reaps, Posts, Subscribes, Informs}
-use Rattle.nc_worker_state.specs.Owned.{Holding, StepPolls, fenced, owned_by, owned_in, order_of, member_of}
-use Rattle.nc_world_laws.proofs.Local.{all_append}
-use Rattle.nc_world_laws.proofs.Telling.{woven_all, weave_nothing}
+use Rattle.nc_worker_state.specs.Incoming.{Incoming, TakesPacket}
+use Rattle.nc_worker_state.specs.Owned.{Holding, fenced, owned_by, order_of}
+use Rattle.nc_world_laws.proofs.Local.{all_of, all_append}
 
 -- ---- events that tell nothing of members
 
@@ -55,14 +51,14 @@ pub memberless_onto : (c : List ℕ) (m : Member) (es h : List Event) → AllByR
 memberless_onto c m [] h p = refl
 memberless_onto c m (e ∷ es) h p = memberless_onto c m es (e ∷ h) p.1 ∙ memberless_one c m e h p.0
 
-abbrev AreMemberless : List Event → Type 0
+abbrev pub AreMemberless : List Event → Type 0
 AreMemberless es = AllByRecursion IsMemberless es
 
-less_left : (w : ℕ) (c : List ℕ) (cause : LeftCause) (es : List Entry) → AreMemberless (map (left_event w c cause) es)
+pub less_left : (w : ℕ) (c : List ℕ) (cause : LeftCause) (es : List Entry) → AreMemberless (map (left_event w c cause) es)
 less_left w c cause [] = tt
 less_left w c cause (e ∷ es) = (tt, less_left w c cause es)
 
-less_freed : (w : ℕ) (slots : List ℕ) → AreMemberless (map (freed_event w) slots)
+pub less_freed : (w : ℕ) (slots : List ℕ) → AreMemberless (map (freed_event w) slots)
 less_freed w [] = tt
 less_freed w (slot ∷ slots) = (tt, less_freed w slots)
 
@@ -70,7 +66,7 @@ less_granted : (w slot g : ℕ) (marks : List ℕ) → AreMemberless (granted_ev
 less_granted w slot g [] = tt
 less_granted w slot g (to ∷ marks) = (tt, less_granted w slot (g + 1) marks)
 
-less_touch : (c : List ℕ) (s : Holding) → AreMemberless (touch_events_of c s.row s.owner)
+pub less_touch : (c : List ℕ) (s : Holding) → AreMemberless (touch_events_of c s.row s.owner)
 less_touch c s = less_left s.owner.desk.me c Expired (leavers (is_expired s.owner.desk.clock) (bench_of c s.row s.owner))
 
 less_post : (x : Outcome) (from : ℕ) (o : Order) (polls : Polls) (b : Bench) → AreMemberless (post_events x from o polls b)
@@ -87,13 +83,13 @@ less_found : (from number : ℕ) (c : List ℕ) (id : Id) (x : Option Entry) (d 
 less_found from number c id None d = (tt, tt)
 less_found from number c id (Some e) d = (tt, (tt, tt))
 
-less_publish : (polls : Polls) (from : ℕ) (o : Order) (s : Holding) → AreMemberless (cleared_events polls.retired o.chan (bench_of o.chan s.row s.owner) ++ post_events (publish_outcome o polls s.row s.owner) from o polls (publish_cleared o polls s.row s.owner))
+pub less_publish : (polls : Polls) (from : ℕ) (o : Order) (s : Holding) → AreMemberless (cleared_events polls.retired o.chan (bench_of o.chan s.row s.owner) ++ post_events (publish_outcome o polls s.row s.owner) from o polls (publish_cleared o polls s.row s.owner))
 less_publish polls from o s =
     all_append IsMemberless (cleared_events polls.retired o.chan (bench_of o.chan s.row s.owner)) (post_events (publish_outcome o polls s.row s.owner) from o polls (publish_cleared o polls s.row s.owner))
     (all_append IsMemberless (touch_events_of o.chan s.row s.owner) (map (freed_event s.owner.desk.me) (free_slots polls.retired)) (less_touch o.chan s) (less_freed s.owner.desk.me (free_slots polls.retired)))
     (less_post (publish_outcome o polls s.row s.owner) from o polls (publish_cleared o polls s.row s.owner))
 
-less_look : (from number : ℕ) (c : List ℕ) (id : Id) (s : Holding) → AreMemberless (look_events from number c id s.row s.owner)
+pub less_look : (from number : ℕ) (c : List ℕ) (id : Id) (s : Holding) → AreMemberless (look_events from number c id s.row s.owner)
 less_look from number c id s =
     let b = bench_of c s.row s.owner in
     let spends = map (left_event s.owner.desk.me c Spent) (leavers is_spent (touched b)) in
@@ -101,77 +97,33 @@ less_look from number c id s =
     (all_append IsMemberless (touch_events_of c s.row s.owner) spends (less_touch c s) (less_left s.owner.desk.me c Spent (leavers is_spent (touched b))))
     (less_found from number c id (found_on id (look_ready c s.row s.owner)) (look_ready c s.row s.owner).desk)
 
-less_edge : (from number k : ℕ) (c : List ℕ) (s : Holding) → AreMemberless (edge_events from number k c s.row s.owner)
+pub less_edge : (from number k : ℕ) (c : List ℕ) (s : Holding) → AreMemberless (edge_events from number k c s.row s.owner)
 less_edge from number k c s = edge_are IsMemberless from number k c s.row s.owner (less_touch c s) tt
 
 -- a fence tells nothing of members
-less_behind : (fence : ℕ) (s : Holding) (es : List Event) → AreMemberless es → AreMemberless (raise_events fence s.owner ++ es)
+pub less_behind : (fence : ℕ) (s : Holding) (es : List Event) → AreMemberless es → AreMemberless (raise_events fence s.owner ++ es)
 less_behind fence s es k = all_append IsMemberless (raise_events fence s.owner) es (raise_are IsMemberless fence s.owner tt) k
-
-less_swept : (names : List (List ℕ)) (x : Swept) → AreMemberless x.events → AreMemberless (fold swept x names).events
-less_swept [] x a = a
-less_swept (c ∷ names) x a = less_swept names (swept x c) (all_append IsMemberless x.events (touch_events_of c x.row x.owner) a (less_touch c (record { owner = x.owner; row = x.row; counts = [] })))
-
-less_reap : (polls : StepPolls) (s : Holding) → AreMemberless (owned_in polls Reaps s).events
-less_reap polls s = all_append IsMemberless (swept_all s.row s.owner).events (freed_events s.owner.desk.me polls.reap) (less_swept (names_of s.owner) (state s.owner s.row []) tt) (less_freed s.owner.desk.me (free_slots polls.reap))
 
 -- ---- what an owner's step makes of a member
 
 abbrev pub member_by : List ℕ → Member → ℕ → AlertLine → Bool → Bool
 member_by c m from (lines.Join d n) is = (name_eq d c && is_same m from n) || is
 member_by c m from (lines.Part d n) is = not (name_eq d c && is_same m from n) && is
+member_by c m from (lines.Delete r d) is = not (name_eq d c) && is
 member_by c m from line is = is
 
 abbrev pub member_in : List ℕ → Member → Incoming → Bool → Bool
 member_in c m (TakesPacket from p) is = member_by c m from p.line is
 member_in c m incoming is = is
 
-module _ (c : List ℕ) (m : Member) (me : ℕ) (next : ℕ → ℕ) (l : List Event) where
-  less_woven : (es : List Event) (alerts : List OutLine) → AreMemberless es → is_member c m (onto (weave me next es alerts) l) ≡ is_member c m l
-  less_woven es alerts p = memberless_onto c m (weave me next es alerts) l (woven_all IsMemberless me next (λ to n a. tt) es alerts p)
+-- whether the step tells a member that the channel is gone
+abbrev pub lost_by : List ℕ → AlertLine → Bool → Bool
+lost_by c (lines.Delete r d) is = name_eq d c && is
+lost_by c line is = false
 
-  -- a touched channel, and then one event or none
-  then_woven : (touch es : List Event) → AreMemberless touch → is_member c m (onto (weave me next (touch ++ es) []) l) ≡ is_member c m (onto es (onto touch l))
-  then_woven touch es p = ap (λ (x : List Event). is_member c m (onto x l)) (weave_nothing me next (touch ++ es)) ∙ ap (is_member c m) (onto_append touch es l)
-
-  parts_case : (has t is : Bool) (w from n : ℕ) (d : List ℕ) (before : List Event) → t ≡ (name_eq d c && is_same m from n) → is_member c m before ≡ is → (t ≡ true → has ≡ is) → is_member c m (onto (cond has (Parted w d from n ∷ []) []) before) ≡ not t && is
-  parts_case true t is w from n d before e f k = ap (λ z. not z && is_member c m before) (sym e) ∙ ap (λ z. not t && z) f
-  parts_case false true is w from n d before e f k = f ∙ sym (k refl)
-  parts_case false false is w from n d before e f k = f
-
-  module _ (polls : Polls) (from : ℕ) (s : Holding) (kept : (d : List ℕ) (n : ℕ) → (name_eq d c && is_same m from n) ≡ true → has_member (member_of from n) (opened d s.owner).members ≡ is_member c m l) where
-    abbrev After : AlertLine → Type 0
-    After line = is_member c m (onto (weave me next (owned_by polls from line s).events (owned_by polls from line s).alerts) l) ≡ member_by c m from line (is_member c m l)
-
-    by_line : (line : AlertLine) → After line
-    by_line (lines.Join d n) = then_woven (touch_events_of d s.row s.owner) _ (less_touch d s) ∙ ap (λ z. (name_eq d c && is_same m from n) || z) (memberless_onto c m (touch_events_of d s.row s.owner) l (less_touch d s))
-    by_line (lines.Part d n) = then_woven (touch_events_of d s.row s.owner) (parted_events s.owner.desk.me (member_of from n) d (opened d s.owner)) (less_touch d s)
-        ∙ parts_case (has_member (member_of from n) (opened d s.owner).members) (name_eq d c && is_same m from n) (is_member c m l) s.owner.desk.me from n d (onto (touch_events_of d s.row s.owner) l) refl (memberless_onto c m (touch_events_of d s.row s.owner) l (less_touch d s)) (kept d n)
-    by_line (lines.Publish r d len timeout ct body) = less_woven _ _ (less_publish polls from (order_of r d len timeout ct body) s)
-    by_line (lines.Look number d after fence) = less_woven _ _ (less_behind fence s _ (less_look from number d after (fenced fence s)))
-    by_line (lines.Info r d) = less_woven _ _ (less_touch d s)
-    by_line (lines.PubAnswer r status info full) = refl
-    by_line (lines.LookAnswer number q floor past g slot) = refl
-    by_line (lines.Notice d id g slot) = refl
-    by_line (lines.Edge number k d fence) = less_woven _ _ (less_behind fence s _ (less_edge from number k d (fenced fence s)))
-    by_line (lines.EdgeAnswer number q floor last) = refl
-    by_line (lines.Delete r d) = refl
-    by_line (lines.DelAnswer r status info) = refl
-    by_line (lines.Gone d subs) = refl
-    by_line (lines.InfoAnswer r status info) = refl
-
-  -- what a step keeps of a member, if the owner knows who is one
-  abbrev pub Knows : Incoming → Holding → Type 0
-  Knows (TakesPacket from p) s = (d : List ℕ) (n : ℕ) → (name_eq d c && is_same m from n) ≡ true → has_member (member_of from n) (opened d s.owner).members ≡ is_member c m l
-  Knows incoming s = Unit {0}
-
-  pub owned_member : (polls : StepPolls) (incoming : Incoming) (s : Holding) → Knows incoming s → is_member c m (onto (weave me next (owned_in polls incoming s).events (owned_in polls incoming s).alerts) l) ≡ member_in c m incoming (is_member c m l)
-  owned_member polls (TakesPacket from p) s kept = by_line polls.publish from s kept p.line
-  owned_member polls (ClockReads t) s kept = refl
-  owned_member polls Reaps s kept = less_woven _ _ (less_reap polls s)
-  owned_member polls (Posts d body) s kept = refl
-  owned_member polls (Subscribes k list start) s kept = refl
-  owned_member polls (Informs d) s kept = refl
+abbrev pub lost_in : List ℕ → Incoming → Bool → Bool
+lost_in c (TakesPacket from p) is = lost_by c p.line is
+lost_in c incoming is = false
 
 -- ---- alerts that tell nothing of members
 
@@ -184,51 +136,86 @@ abbrev pub MakesApart : Event → Type 0
 MakesApart (Made w to n a) = IsApart a
 MakesApart _ = Unit {0}
 
-abbrev AreApart : List OutLine → Type 0
+abbrev pub AreApart : List OutLine → Type 0
 AreApart alerts = AllByRecursion (λ (a : OutLine). IsApart a.line) alerts
 
-apart_notices : (c : List ℕ) (id : Id) (slot g : ℕ) (marks : List ℕ) → AreApart (notices c id slot g marks)
-apart_notices c id slot g [] = tt
-apart_notices c id slot g (to ∷ marks) = (tt, apart_notices c id slot (g + 1) marks)
+-- an alert that tells nobody that a channel is gone either
+abbrev pub IsOther : AlertLine → Type 0
+IsOther (lines.Join d n) = ⊥
+IsOther (lines.Part d n) = ⊥
+IsOther (lines.Gone d subs) = ⊥
+IsOther line = Unit {0}
 
-apart_post : (x : Outcome) (from : ℕ) (o : Order) (polls : Polls) (b : Bench) → AreApart (post_alerts x from o polls b)
-apart_post late from o polls b = (tt, tt)
-apart_post (is_all usage) from o polls b = (tt, tt)
-apart_post stored from o polls b =
+other_apart : (line : AlertLine) → IsOther line → IsApart line
+other_apart (lines.Join d n) p = p
+other_apart (lines.Part d n) p = p
+other_apart line p = tt
+
+abbrev pub AreOther : List OutLine → Type 0
+AreOther alerts = AllByRecursion (λ (a : OutLine). IsOther a.line) alerts
+
+-- a line that doesn't ask for a deletion
+abbrev pub IsUndeleting : AlertLine → Type 0
+IsUndeleting (lines.Delete r c) = ⊥
+IsUndeleting line = Unit {0}
+
+other_notices : (c : List ℕ) (id : Id) (slot g : ℕ) (marks : List ℕ) → AreOther (notices c id slot g marks)
+other_notices c id slot g [] = tt
+other_notices c id slot g (to ∷ marks) = (tt, other_notices c id slot (g + 1) marks)
+
+other_post : (x : Outcome) (from : ℕ) (o : Order) (polls : Polls) (b : Bench) → AreOther (post_alerts x from o polls b)
+other_post late from o polls b = (tt, tt)
+other_post (is_all usage) from o polls b = (tt, tt)
+other_post stored from o polls b =
     let c = asked polls.leaving b in
     let r = roomy o.length polls.left c in
-    all_append (λ (a : OutLine). IsApart a.line) (notices o.chan (stamp c) (lowest_slot r.row) c.desk.grants c.channel.marks)
+    all_append (λ (a : OutLine). IsOther a.line) (notices o.chan (stamp c) (lowest_slot r.row) c.desk.grants c.channel.marks)
     (answer from o.r (stored_status c.channel) (Some (info_of (store_bench o polls.left c).channel)) None ∷ [])
-    (apart_notices o.chan (stamp c) (lowest_slot r.row) c.desk.grants c.channel.marks) (tt, tt)
+    (other_notices o.chan (stamp c) (lowest_slot r.row) c.desk.grants c.channel.marks) (tt, tt)
 
-apart_found : (from number : ℕ) (x : Option Entry) (d : OwnerDesk) → IsApart (found_line from number x d).line
-apart_found from number None d = tt
-apart_found from number (Some e) d = tt
+other_found : (from number : ℕ) (x : Option Entry) (d : OwnerDesk) → IsOther (found_line from number x d).line
+other_found from number None d = tt
+other_found from number (Some e) d = tt
 
-apart_info : (r : ℕ) (b : Bool) (info : Option Info) → IsApart (cond b (lines.InfoAnswer r 200 info) (lines.InfoAnswer r 404 None))
-apart_info r true info = tt
-apart_info r false info = tt
+other_info : (r : ℕ) (b : Bool) (info : Option Info) → IsOther (cond b (lines.InfoAnswer r 200 info) (lines.InfoAnswer r 404 None))
+other_info r true info = tt
+other_info r false info = tt
 
-apart_line : (polls : Polls) (from : ℕ) (line : AlertLine) (s : Holding) → AreApart (owned_by polls from line s).alerts
-apart_line polls from (lines.Publish r c len timeout ct body) s = let o = order_of r c len timeout ct body in apart_post (publish_outcome o polls s.row s.owner) from o polls (publish_cleared o polls s.row s.owner)
-apart_line polls from (lines.Look number c after fence) s = let b = look_ready c s.row (fenced fence s).owner in (apart_found from number (found_on after b) b.desk, tt)
-apart_line polls from (lines.Info r c) s = (apart_info r (exists c s.owner) (Some (info_of (touched_of c s.row s.owner).channel)), tt)
-apart_line polls from (lines.Join c k) s = tt
-apart_line polls from (lines.Part c k) s = tt
-apart_line polls from (lines.PubAnswer r status info full) s = tt
-apart_line polls from (lines.LookAnswer number q floor found g slot) s = tt
-apart_line polls from (lines.Notice c id g slot) s = tt
-apart_line polls from (lines.Edge number k c fence) s = (tt, tt)
-apart_line polls from (lines.EdgeAnswer number q floor last) s = tt
-apart_line polls from (lines.Delete r c) s = tt
-apart_line polls from (lines.DelAnswer r status info) s = tt
-apart_line polls from (lines.Gone c subs) s = tt
-apart_line polls from (lines.InfoAnswer r status info) s = tt
+-- what an owner answers to each other line
+pub other_line : (polls : Polls) (from : ℕ) (line : AlertLine) (s : Holding) → IsUndeleting line → AreOther (owned_by polls from line s).alerts
+other_line polls from (lines.Publish r c len timeout ct body) s u = let o = order_of r c len timeout ct body in other_post (publish_outcome o polls s.row s.owner) from o polls (publish_cleared o polls s.row s.owner)
+other_line polls from (lines.Look number c after fence) s u = let b = look_ready c s.row (fenced fence s).owner in (other_found from number (found_on after b) b.desk, tt)
+other_line polls from (lines.Info r c) s u = (other_info r (exists c s.owner) (Some (info_of (touched_of c s.row s.owner).channel)), tt)
+other_line polls from (lines.Join c k) s u = tt
+other_line polls from (lines.Part c k) s u = tt
+other_line polls from (lines.PubAnswer r status info full) s u = tt
+other_line polls from (lines.LookAnswer number q floor found g slot) s u = tt
+other_line polls from (lines.Notice c id g slot) s u = tt
+other_line polls from (lines.Edge number k c fence) s u = (tt, tt)
+other_line polls from (lines.EdgeAnswer number q floor last) s u = tt
+other_line polls from (lines.Delete r c) s u = absurd u
+other_line polls from (lines.DelAnswer r status info) s u = tt
+other_line polls from (lines.Gone c subs) s u = tt
+other_line polls from (lines.InfoAnswer r status info) s u = tt
 
-pub apart_owned : (polls : StepPolls) (incoming : Incoming) (s : Holding) → AreApart (owned_in polls incoming s).alerts
-apart_owned polls (TakesPacket from p) s = apart_line polls.publish from p.line s
-apart_owned polls (ClockReads t) s = tt
-apart_owned polls Reaps s = tt
-apart_owned polls (Posts c body) s = tt
-apart_owned polls (Subscribes k list start) s = tt
-apart_owned polls (Informs c) s = tt
+apart_gones : (c : List ℕ) (ms : List Member) (ws : List ℕ) → AreApart (map (gone_line c ms) ws)
+apart_gones c ms [] = tt
+apart_gones c ms (w ∷ ws) = (tt, apart_gones c ms ws)
+
+apart_delete : (from r : ℕ) (c : List ℕ) (s : Holding) → AreApart (delete_alerts from r c s.row s.owner)
+apart_delete from r c s =
+    all_append (λ (a : OutLine). IsApart a.line) (alerts_of_removal (exists c s.owner) c (touch_after c s.row s.owner)) (delete_line from r c s.row s.owner ∷ [])
+    (removal (exists c s.owner)) (answer (exists c s.owner), tt)
+  where
+    removal : (goes : Bool) → AreApart (alerts_of_removal goes c (touch_after c s.row s.owner))
+    removal true = let ch = opened c (touch_after c s.row s.owner) in apart_gones c ch.members (concerned ch)
+    removal false = tt
+
+    answer : (there : Bool) → IsApart (cond there (delete_answer from r 200 (Some (info_of (touched_of c s.row s.owner).channel))) (delete_answer from r 404 None)).line
+    answer true = tt
+    answer false = tt
+
+-- what an owner makes lets nobody join or part
+pub apart_line : (polls : Polls) (from : ℕ) (line : AlertLine) (s : Holding) → AreApart (owned_by polls from line s).alerts
+apart_line polls from (lines.Delete r c) s = apart_delete from r c s
+apart_line polls from line s = all_of (λ (a : OutLine). IsOther a.line) (λ (a : OutLine). IsApart a.line) (λ a. other_apart a.line) (owned_by polls from line s).alerts (other_line polls from line s tt)

@@ -17,7 +17,7 @@ use Rattle.nc_spool_members.specs.Members.{reads_with, begins_with, stands_with}
 use Rattle.nc_spool_members.specs.Stages.{ReaderStands, SpoolStands, StartStarts, HasStage}
 use Rattle.nc_history.specs.Packets.{Packet}
 use Rattle.nc_worker_state.specs.Setup.{Setup}
-use Rattle.nc_worker_state.specs.Incoming.{Incoming, TakesPacket, ClockReads, Reaps, Posts, Subscribes, Informs}
+use Rattle.nc_worker_state.specs.Incoming.{Incoming, TakesPacket, ClockReads, Reaps, Posts, Subscribes, Removes, Informs}
 use Rattle.nc_worker_state.specs.Desk.{Desk}
 use Rattle.nc_worker_state.specs.Worker.{WorkerAt, with_at, dealt_worker}
 use Rattle.nc_world.specs.World.{World, handled_events, handled}
@@ -27,7 +27,6 @@ use Rattle.nc_world_laws.specs.Good.{Good}
 use Rattle.nc_world_laws.specs.WorldTheme.{IsWorldTheme}
 use Rattle.nc_world_laws.proofs.Local.{eqb_self}
 use Rattle.nc_world_laws.proofs.Acting.{with_all}
-use Rattle.nc_world_laws.proofs.Moving.{taken_right}
 use Rattle.nc_world_laws.proofs.Parts.{owns, serves, before, part}
 use Rattle.nc_world_laws.proofs.Frames.{own_handled, handled_onto, part_stage}
 use Rattle.nc_world_laws.proofs.WorldThemes.{world_theme_holds}
@@ -54,6 +53,7 @@ module _ (setup : Setup) (is : IsSetup setup) (x : ℕ) (incoming : Incoming) (h
   opened k Reaps l = refl
   opened k (Posts c body) l = refl
   opened k (Subscribes n list start) l = refl
+  opened k (Removes c) l = refl
   opened k (Informs c) l = refl
 
   stage_here : (k : ℕ) → stage_of k (onto es (own x h)) ≡ stage_done k (stage_opened k incoming (stage_of k (own x h))) (serves setup x incoming world).deeds
@@ -101,6 +101,7 @@ input_fresh setup x (TakesPacket from p) h world has i k = absurd i
 input_fresh setup x (ClockReads t) h world has i k = tt
 input_fresh setup x Reaps h world has i k = tt
 input_fresh setup x (Posts c body) h world has i k = tt
+input_fresh setup x (Removes c) h world has i k = tt
 input_fresh setup x (Informs c) h world has i k = tt
 input_fresh setup x (Subscribes n list start) h world has i k = nowhere n (is_subscribed n (own x h)) (stage_of n (own x h)) (spools_at world x) i.new (has.staged x n)
 
@@ -111,17 +112,17 @@ module _ (setup : Setup) (is : IsSetup setup) where
       desk : (x : ℕ) → ((carried_one w v p ps world).workers x).desk ≡ (world.workers x).desk
       desk = with_all (λ x (s : WorkerAt). s.desk ≡ (world.workers x).desk) world.workers w (record (world.workers w) { outbox = with_at (world.workers w).outbox v ps }) refl (λ x e. refl)
 
-  takes_staged : (x v : ℕ) (p : Packet) (ps : List Packet) (h : List Event) (world : World) → Good setup h world → world.rings v x ≡ p ∷ ps → HasStages h world
+  takes_staged : (x v : ℕ) (p : Packet) (ps : List Packet) (h : List Event) (world : World) → Good setup h world → HasStages h world
       → HasStages (onto (handled_events setup x (TakesPacket v p) world) h) (handled setup x (TakesPacket v p) (with_ring v x ps world))
-  takes_staged x v p ps h world g at has =
-      let step = step_staged setup is x (TakesPacket v p) h world g has (λ k. taken_right setup x v p ps h world g at) in
+  takes_staged x v p ps h world g has =
+      let step = step_staged setup is x (TakesPacket v p) h world g has (λ k. tt) in
       record { staged = step.staged }
 
   stages_theme : IsWorldTheme setup HasStages
   stages_theme = record {
     new = record { staged = λ w k. record { few = omega arith; over = λ e. absurd (omega (arith, e)); standing = tt; starting = tt; away = λ e. refl } };
     handles = λ w incoming h world reached g here i has. step_staged setup is w incoming h world g has (input_fresh setup w incoming h world has i);
-    takes = λ w v p ps h world reached g here there at has. takes_staged w v p ps h world g at has;
+    takes = λ w v p ps h world reached g here there at has. takes_staged w v p ps h world g has;
     carries = λ w v p ps h world reached g here there at has. carries_staged w v p ps h world has;
     pending = λ n h world reached g same has. record { staged = has.staged };
     quiet = λ h world reached g same has. record { staged = has.staged };
@@ -243,8 +244,8 @@ stands_by_stage c k subscribed stage b has =
         sym (ap (is_with c) (has.away none) ∙ nobody subscribed)
 
 pub members_by_stages : MembersByStages
-members_by_stages setup h world is r w k c none =
-    members_stand setup h world is r w k c none ∙ stands_by_stage c k (is_subscribed k (own w h)) (stage_of k (own w h)) (spools_at world w) ((reached_has_stages setup h world is r).staged w k)
+members_by_stages setup h world is r w k c none none_back =
+    members_stand setup h world is r w k c none none_back ∙ stands_by_stage c k (is_subscribed k (own w h)) (stage_of k (own w h)) (spools_at world w) ((reached_has_stages setup h world is r).staged w k)
 
 -- ---- nobody waits for its end, or for its start
 

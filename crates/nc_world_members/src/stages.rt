@@ -11,7 +11,7 @@ pub fn spools_stand()
     ensures { SpoolsStand }
 {}
 
-/// Where nothing is on its way from a worker to the owner of a channel, the members of this worker are those who stand or start
+/// Where nothing is on its way between a worker and the owner of a channel, the members of this worker are those who stand or start
 /// with it by the journal.
 pub fn members_by_stages()
     ensures { MembersByStages }

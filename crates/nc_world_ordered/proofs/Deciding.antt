@@ -4,6 +4,7 @@ use Rattle.std.specs.Prelude.{fold}
 use Rattle.std.specs.List.{AllByRecursion}
 use Rattle.nc_journal.specs.Standing.{Standing}
 use Rattle.nc_journal.specs.declared.event.Event.{Event}
+use Rattle.nc_journal.specs.declared.word.EndedCause.{EndedCause}
 use Rattle.nc_journal.specs.declared.word.EndedCause.TheVariants.{Answered}
 use Rattle.nc_spool.specs.declared.fact.Fact.{Fact}
 use Rattle.nc_spool.specs.declared.fact.Fact.TheVariants as facts
@@ -26,20 +27,24 @@ use Rattle.nc_world_ordered.specs.Orderly.{IsOrderly}
 use Rattle.nc_world_ordered.proofs.Orders.{made_orderly, sent_goes_on, sent_and_ended}
 
 -- alerts that are made keep the order
-outs_written : (me : ℕ) (next : ℕ → ℕ) (fs : List Fact) (h : List Event) → AllByRecursion IsOut fs → IsOrderly h → IsOrderly (written me Answered next fs h)
-outs_written me next [] h all o = o
-outs_written me next (facts.Out x ∷ fs) h all o = outs_written me (fact_next me Answered next (facts.Out x)) fs _ all.1 (made_orderly me x.to (next x.to) _ h o)
-outs_written me next (facts.Started k cursor ∷ fs) h all o = absurd all.0
-outs_written me next (facts.Sent s ∷ fs) h all o = absurd all.0
-outs_written me next (facts.Ended k deleted ∷ fs) h all o = absurd all.0
+outs_written : (me : ℕ) (cause : EndedCause) (next : ℕ → ℕ) (fs : List Fact) (h : List Event) → AllByRecursion IsOut fs → IsOrderly h → IsOrderly (written me cause next fs h)
+outs_written me cause next [] h all o = o
+outs_written me cause next (facts.Out x ∷ fs) h all o = outs_written me cause (fact_next me cause next (facts.Out x)) fs _ all.1 (made_orderly me x.to (next x.to) _ h o)
+outs_written me cause next (facts.Started k cursor ∷ fs) h all o = absurd all.0
+outs_written me cause next (facts.Sent s ∷ fs) h all o = absurd all.0
+outs_written me cause next (facts.Ended k deleted ∷ fs) h all o = absurd all.0
+
+-- whatever the call is for
+pub made_outs_orderly : (me : ℕ) (cause : EndedCause) (next : ℕ → ℕ) (h : List Event) (xs ys : List Fact) → Appends IsOut xs ys → IsOrderly (written me cause next xs h) → IsOrderly (written me cause next ys h)
+made_outs_orderly me cause next h xs ys a o = subst (λ (l : List Fact). IsOrderly (written me cause next l h)) (sym a.are)
+    (subst IsOrderly (sym (written_append me cause next xs a.facts h)) (outs_written me cause (next_written me cause next xs) a.facts (written me cause next xs h) a.all o))
 
 module _ (me : ℕ) (next : ℕ → ℕ) (h : List Event) where
   abbrev Now : List Fact → List Event
   Now fs = written me Answered next fs h
 
   pub outs_orderly : (xs ys : List Fact) → Appends IsOut xs ys → IsOrderly (written me Answered next xs h) → IsOrderly (written me Answered next ys h)
-  outs_orderly xs ys a o = subst (λ (l : List Fact). IsOrderly (written me Answered next l h)) (sym a.are)
-      (subst IsOrderly (sym (written_append me Answered next xs a.facts h)) (outs_written me (next_written me Answered next xs) a.facts (written me Answered next xs h) a.all o))
+  outs_orderly xs ys a o = made_outs_orderly me Answered next h xs ys a o
 
   module _ (d : Delivery) where
     -- one subscriber is sent a message

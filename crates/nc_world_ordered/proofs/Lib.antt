@@ -2,3 +2,4 @@ pub mod Orders
 pub mod Deciding
 pub mod Edging
 pub mod Calls
+pub mod Losses

@@ -9,7 +9,7 @@ use Rattle.nc_journal.specs.History.{own, is_by}
 use Rattle.nc_journal.specs.Standing.{Stage, Absent, Starting, Standing, Served, Over, stage_of, started, served, IsStarting, IsStanding, IsServed, EndsBy, NobodyServed, OrderedAt}
 use Rattle.nc_journal.specs.declared.event.Event.{Event}
 use Rattle.nc_journal.specs.declared.event.Event.TheVariants.{Started, Sent, Ended, Made}
-use Rattle.nc_journal.specs.declared.word.EndedCause.TheVariants.{Answered}
+use Rattle.nc_journal.specs.declared.word.EndedCause.TheVariants.{Answered, Deleted}
 use Rattle.nc_journal.specs.declared.alert.AlertLine.{AlertLine}
 use Rattle.nc_world_laws.proofs.Frames.{IsStageless, one_stage}
 use Rattle.nc_world_ordered.specs.Orderly.{IsOrderly}
@@ -99,3 +99,15 @@ started_orderly me k cur h starts o = record {
         (subst IsServed (ap (λ (x : Bool). stage_of n (cond x (Started me k cur ∷ own w h) (own w h))) p ∙ ap (λ (x : Bool). cond x (started cur (stage_of n (own w h))) (stage_of n (own w h))) q) is)
     by w n true p false q is = o.ended w n (subst IsServed (ap (λ (x : Bool). stage_of n (cond x (Started me k cur ∷ own w h) (own w h))) p ∙ ap (λ (x : Bool). cond x (started cur (stage_of n (own w h))) (stage_of n (own w h))) q) is)
     by w n false p d q is = o.ended w n (subst IsServed (ap (λ (x : Bool). stage_of n (cond x (Started me k cur ∷ own w h) (own w h))) p) is)
+
+-- a subscriber that starts or stands is ended by a deletion
+pub deleted_orderly : (me k : ℕ) (h : List Event) → EndsBy Deleted (stage_of k (own me h)) → IsOrderly h → IsOrderly (Ended me k Deleted ∷ h)
+deleted_orderly me k h ends o = record {
+  ordered = (o.ordered, ends);
+  ended = λ w n. by w n (w == me) refl (k == n) refl;
+}
+  where
+    by : (w n : ℕ) (b : Bool) → (w == me) ≡ b → (d : Bool) → (k == n) ≡ d → IsServed (stage_of n (own w (Ended me k Deleted ∷ h))) → ⊥
+    by w n true p true q is = subst IsServed (ap (λ (x : Bool). stage_of n (cond x (Ended me k Deleted ∷ own w h) (own w h))) p ∙ ap (λ (x : Bool). cond x Over (stage_of n (own w h))) q) is
+    by w n true p false q is = o.ended w n (subst IsServed (ap (λ (x : Bool). stage_of n (cond x (Ended me k Deleted ∷ own w h) (own w h))) p ∙ ap (λ (x : Bool). cond x Over (stage_of n (own w h))) q) is)
+    by w n false p d q is = o.ended w n (subst IsServed (ap (λ (x : Bool). stage_of n (cond x (Ended me k Deleted ∷ own w h) (own w h))) p) is)

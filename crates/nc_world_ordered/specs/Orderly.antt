@@ -12,7 +12,7 @@ use Rattle.nc_spool.specs.declared.spools.Found.{Found}
 use Rattle.nc_spool.specs.Calls.{SpoolsAt, board_of}
 use Rattle.nc_spool_laws.specs.Tally.{StandOnce}
 use Rattle.nc_worker_state.specs.Deed.{told}
-use Rattle.nc_worker_state.specs.Spooled.{Hold, arrives, answers, edges, notices}
+use Rattle.nc_worker_state.specs.Spooled.{Hold, arrives, answers, edges, notices, loses}
 use Rattle.nc_world_told.specs.Readers.{StandHere}
 
 -- the events stand in order, and nobody was served without having ended
@@ -41,6 +41,11 @@ AllStart me h s = AllByRecursion (λ (x : StartingAt). stage_of x.reader.k (own 
 abbrev pub EdgeOrderly : Type 0
 EdgeOrderly = (me number floor : ℕ) (last : Id) (next : ℕ → ℕ) (h : List Event) (s : SpoolsAt Hold) → AllStart me h s
     → IsOrderly h → IsOrderly (onto (told me next (edges me number floor last s).deeds) h)
+
+-- a channel is gone: each subscriber that is ended starts or stands by the history
+abbrev pub LossOrderly : Type 0
+LossOrderly = (me : ℕ) (c subs : List ℕ) (next : ℕ → ℕ) (h : List Event) (s : SpoolsAt Hold) → StandOnce (board_of s) → AllStand me h s → AllStart me h s
+    → IsOrderly h → IsOrderly (onto (told me next (loses me c subs s).deeds) h)
 
 -- a subscriber that subscribed comes
 abbrev pub ArrivalOrderly : Type 0

@@ -8,7 +8,8 @@ use Rattle.nc_journal.specs.History.{onto}
 use Rattle.nc_journal.specs.declared.event.Event.{Event}
 use Rattle.nc_journal.specs.declared.event.Event.TheVariants.{Joined, Parted, Stored, Left, Looked, Edged, Granted, Freed, Made}
 use Rattle.nc_journal.specs.declared.word.LeftCause.{LeftCause}
-use Rattle.nc_journal.specs.declared.word.LeftCause.TheVariants.{Expired, Spent, Length}
+use Rattle.nc_journal.specs.declared.word.LeftCause.TheVariants.{Expired, Spent, Length, Deleted}
+use Rattle.nc_journal.specs.declared.word.RemovedCause.{RemovedCause}
 use Rattle.nc_buffer.specs.declared.entry.Entry.{Entry}
 use Rattle.nc_buffer.specs.Buffer.{is_expired, is_spent}
 use Rattle.nc_slots.specs.declared.slot.Slot.{Slot}
@@ -17,12 +18,13 @@ use Rattle.nc_owner.specs.declared.member.Member.{Member}
 use Rattle.nc_owner.specs.declared.order.Order.{Order}
 use Rattle.nc_owner.specs.Members.{has_member}
 use Rattle.nc_owner.specs.AlertLines.{OutLine}
-use Rattle.nc_owner.specs.State.{OwnerAt, Bench, bench_of, opened}
+use Rattle.nc_owner.specs.State.{OwnerAt, Bench, bench_of, entries_of, opened}
 use Rattle.nc_owner.specs.Leave.{left_event, leavers, touched}
 use Rattle.nc_owner.specs.Poll.{freed_event, free_slots}
 use Rattle.nc_owner.specs.Publish.{Polls, Outcome, late, stored, full, asked, roomy, leaving, lowest_slot, granted_events, post_events, stored_events, roomy_events, cleared_events, publish_cleared, publish_outcome, publish_events, publish_alerts}
 use Rattle.nc_owner.specs.Look.{found_on, looked_event, found_events, look_ready, look_events, look_alerts}
 use Rattle.nc_owner.specs.OtherSteps.{touch_events_of, join_events, part_events, info_alerts, polled_events}
+use Rattle.nc_owner.specs.Remove.{removal_lefts, removal_events, removal_alerts}
 use Rattle.nc_owner_laws.specs.Aside.{IsAside}
 use Rattle.nc_owner_laws.specs.Weave.{weave}
 use Rattle.nc_worker_state.specs.Setup.{Setup}
@@ -123,14 +125,14 @@ module _ (workers w : ℕ) (c : List ℕ) (from : ℕ) (owns : owner_of workers 
   asked_on e is = tt
 
 -- an event that nobody asks for
-abbrev IsUnasked : Event → Type 0
+abbrev pub IsUnasked : Event → Type 0
 IsUnasked (Joined w c from k) = ⊥
 IsUnasked (Parted w c from k) = ⊥
 IsUnasked (Looked w q from number c after floor found) = ⊥
 IsUnasked (Edged w q from number k c floor last) = ⊥
 IsUnasked _ = Unit {0}
 
-unasked : (workers : ℕ) (e : Event) → IsUnasked e → IsAsked workers e
+pub unasked : (workers : ℕ) (e : Event) → IsUnasked e → IsAsked workers e
 unasked workers (Joined w c from k) p = absurd p
 unasked workers (Parted w c from k) p = absurd p
 unasked workers (Looked w q from number c after floor found) p = absurd p
@@ -162,8 +164,8 @@ module _ (setup : Setup) (me : ℕ) (next : ℕ → ℕ) (h : List Event) (w : �
       changed (e ∷ xs) b = (asked_on setup.workers w c from (owns ∙ sym is) there e b.0, changed xs b.1)
 
   -- a step that nobody asks for
-  alone : (es : List Event) → AllByRecursion IsUnasked es → AllByRecursion (IsAsked setup.workers) (onto (weave me next es []) h)
-  alone es a = all_onto (IsAsked setup.workers) (weave me next es []) h (woven_all (IsAsked setup.workers) me next (λ to n l. tt) es [] (changed es a)) fact
+  alone : (es : List Event) (alerts : List OutLine) → AllByRecursion IsUnasked es → AllByRecursion (IsAsked setup.workers) (onto (weave me next es alerts) h)
+  alone es alerts a = all_onto (IsAsked setup.workers) (weave me next es alerts) h (woven_all (IsAsked setup.workers) me next (λ to n l. tt) es alerts (changed es a)) fact
     where
       changed : (xs : List Event) → AllByRecursion IsUnasked xs → AllByRecursion (IsAsked setup.workers) xs
       changed [] b = tt
@@ -172,6 +174,12 @@ module _ (setup : Setup) (me : ℕ) (next : ℕ → ℕ) (h : List Event) (w : �
 unasked_lefts : (w : ℕ) (c : List ℕ) (cause : LeftCause) (es : List Entry) → AllByRecursion IsUnasked (map (left_event w c cause) es)
 unasked_lefts w c cause [] = tt
 unasked_lefts w c cause (e ∷ es) = (tt, unasked_lefts w c cause es)
+
+pub unasked_touch : (c : List ℕ) (row : List (Slot Message)) (s : OwnerAt) → AllByRecursion IsUnasked (touch_events_of c row s)
+unasked_touch c row s = unasked_lefts s.desk.me c Expired (leavers (is_expired s.desk.clock) (bench_of c row s))
+
+pub unasked_removal : (c : List ℕ) (cause : RemovedCause) (s : OwnerAt) → AllByRecursion IsUnasked (removal_events c cause s)
+unasked_removal c cause s = all_append IsUnasked (removal_lefts c Deleted s) _ (unasked_lefts s.desk.me c Deleted (entries_of (opened c s))) (tt, tt)
 
 unasked_freed : (w : ℕ) (slots : List ℕ) → AllByRecursion IsUnasked (map (freed_event w) slots)
 unasked_freed w [] = tt
@@ -191,9 +199,10 @@ asked_theme setup me = record {
         join = λ m c owns there. step c m.from (join_events m c row s) [] owns there (on_join m c row s);
         part = λ m c owns there. step c m.from (part_events m c row s) [] owns there (on_part m c row s);
         info = λ from r c owns there. step c from (touch_events_of c row s) (info_alerts from r c row s) owns there (on_touch c from row s);
-        sweep = λ c. alone setup me next h s.desk.me is fact (touch_events_of c row s) (unasked_lefts s.desk.me c Expired (leavers (is_expired s.desk.clock) (bench_of c row s)));
+        touch = λ c owns. alone setup me next h s.desk.me is fact (touch_events_of c row s) [] (unasked_touch c row s);
+        remove = λ c cause owns may. alone setup me next h s.desk.me is fact (removal_events c cause s) (removal_alerts c s) (unasked_removal c cause s);
         look = λ from number c id owns there. step c from (look_events from number c id row s) (look_alerts from number c id row s) owns there (on_look from number c id row s);
-        polled = λ answers each. alone setup me next h s.desk.me is fact (polled_events answers s) (unasked_freed s.desk.me (free_slots answers));
+        polled = λ answers each. alone setup me next h s.desk.me is fact (polled_events answers s) [] (unasked_freed s.desk.me (free_slots answers));
         publish = λ from o polls owns there fit. step o.chan from (publish_events from o polls row s) (publish_alerts from o polls row s) owns there (on_publish from o polls row s);
       };
 }

@@ -15,13 +15,14 @@ use Rattle.nc_buffer.specs.declared.entry.Entry.{Entry}
 use Rattle.nc_owner.specs.declared.desk.Desk.{Desk as OwnerDesk}
 use Rattle.nc_owner.specs.declared.order.Order.{Order}
 use Rattle.nc_owner.specs.AlertLines.{OutLine}
+use Rattle.nc_owner.specs.Remove.{delete_alerts}
 use Rattle.nc_owner.specs.State.{Bench, opened}
 use Rattle.nc_owner.specs.Look.{found_on, found_line, look_ready}
 use Rattle.nc_owner.specs.Fence.{with_floor}
 use Rattle.nc_owner.specs.Publish.{Polls, Outcome, late, stored, full as is_all, notices, answer, asked, roomy, stamp, lowest_slot, stored_status, info_of, store_bench, post_alerts, publish_outcome, publish_cleared}
 use Rattle.nc_history.specs.Packets.{Packet, packet, is_pair, pending}
 use Rattle.nc_worker_state.specs.Setup.{Setup}
-use Rattle.nc_worker_state.specs.Incoming.{Incoming, TakesPacket, ClockReads, Reaps, Posts, Subscribes, Informs}
+use Rattle.nc_worker_state.specs.Incoming.{Incoming, TakesPacket, ClockReads, Reaps, Posts, Subscribes, Removes, Informs}
 use Rattle.nc_worker_state.specs.Owned.{Holding, owned_by, owned_in, order_of}
 use Rattle.nc_worker_state.specs.Worker.{holding}
 use Rattle.nc_world.specs.World.{World, seat, polls_of, handled_events, waiting_packets, sum_below, sum_pairs, pending_in}
@@ -31,12 +32,13 @@ use Rattle.nc_owner_laws.specs.Kinds.{IsOfOwner}
 use Rattle.nc_world_laws.specs.Kinds.{IsBy, IsOfWorker, AsksOwner}
 use Rattle.nc_world_laws.specs.Good.{Good}
 use Rattle.nc_world_laws.specs.WorldTheme.{WorldFact, IsWorldTheme}
-use Rattle.nc_world_laws.proofs.Local.{all_append, all_of, eq_of}
-use Rattle.nc_world_laws.proofs.Telling.{woven_made, told_made, deeds_do, deeds_make}
-use Rattle.nc_world_laws.proofs.Parts.{owns, serves, before, part, behind, of, well, step_by}
+use Rattle.nc_world_laws.proofs.Local.{all_append, eq_of}
+use Rattle.nc_world_laws.proofs.Telling.{PartAlerts, told_made, deeds_do, deeds_make}
+use Rattle.nc_world_laws.proofs.Parts.{serves, before, part, behind, well, part_made, step_by}
 use Rattle.nc_world_owners.specs.Pairs.{IsBetween, CountedAt}
 use Rattle.nc_world_owners.proofs.Asked.{IsAsked, all_onto}
 use Rattle.nc_world_owners.proofs.FewGrants.{marks_there}
+use Rattle.nc_world_owners.proofs.Gones.{Known, deletion_there, sweeps_there}
 use Rattle.nc_world_owners.proofs.ReachedOwners.{leaving_facts}
 
 -- ---- receivers
@@ -77,21 +79,22 @@ module _ (workers : ℕ) where
   found_there from number None d there = there
   found_there from number (Some e) d there = there
 
-  line_there : (polls : Polls) (from : ℕ) (line : AlertLine) (s : Holding) → from < workers → ((c : List ℕ) → AllByRecursion (λ u. u < workers) (opened c s.owner).marks) → AreThere workers (owned_by polls from line s).alerts
-  line_there polls from (lines.Publish r c len timeout ct body) s there marks = let o = order_of r c len timeout ct body in post_there (publish_outcome o polls s.row s.owner) from o polls (publish_cleared o polls s.row s.owner) there (marks c)
-  line_there polls from (lines.Look number c after fence) s there marks = let ready = look_ready c s.row (with_floor fence s.owner) in (found_there from number (found_on after ready) ready.desk there, tt)
-  line_there polls from (lines.Edge number k c fence) s there marks = (there, tt)
-  line_there polls from (lines.Join c k) s there marks = tt
-  line_there polls from (lines.Part c k) s there marks = tt
-  line_there polls from (lines.Info r c) s there marks = (there, tt)
-  line_there polls from (lines.PubAnswer r status info full) s there marks = tt
-  line_there polls from (lines.LookAnswer number q floor found g slot) s there marks = tt
-  line_there polls from (lines.Notice c id g slot) s there marks = tt
-  line_there polls from (lines.EdgeAnswer number q floor last) s there marks = tt
-  line_there polls from (lines.Delete r c) s there marks = tt
-  line_there polls from (lines.DelAnswer r status info) s there marks = tt
-  line_there polls from (lines.Gone c subs) s there marks = tt
-  line_there polls from (lines.InfoAnswer r status info) s there marks = tt
+  line_there : (polls : Polls) (from : ℕ) (line : AlertLine) (s : Holding) → from < workers → ((c : List ℕ) → AllByRecursion (λ u. u < workers) (opened c s.owner).marks) → ((r : ℕ) (c : List ℕ) → AreThere workers (delete_alerts from r c s.row s.owner))
+      → AreThere workers (owned_by polls from line s).alerts
+  line_there polls from (lines.Publish r c len timeout ct body) s there marks gone = let o = order_of r c len timeout ct body in post_there (publish_outcome o polls s.row s.owner) from o polls (publish_cleared o polls s.row s.owner) there (marks c)
+  line_there polls from (lines.Look number c after fence) s there marks gone = let ready = look_ready c s.row (with_floor fence s.owner) in (found_there from number (found_on after ready) ready.desk there, tt)
+  line_there polls from (lines.Edge number k c fence) s there marks gone = (there, tt)
+  line_there polls from (lines.Join c k) s there marks gone = tt
+  line_there polls from (lines.Part c k) s there marks gone = tt
+  line_there polls from (lines.Info r c) s there marks gone = (there, tt)
+  line_there polls from (lines.PubAnswer r status info full) s there marks gone = tt
+  line_there polls from (lines.LookAnswer number q floor found g slot) s there marks gone = tt
+  line_there polls from (lines.Notice c id g slot) s there marks gone = tt
+  line_there polls from (lines.EdgeAnswer number q floor last) s there marks gone = tt
+  line_there polls from (lines.Delete r c) s there marks gone = gone r c
+  line_there polls from (lines.DelAnswer r status info) s there marks gone = tt
+  line_there polls from (lines.Gone c subs) s there marks gone = tt
+  line_there polls from (lines.InfoAnswer r status info) s there marks gone = tt
 
 -- what comes from a worker that is there
 abbrev pub IsThere : Setup → Incoming → Type 0
@@ -99,13 +102,21 @@ IsThere setup (TakesPacket from p) = from < setup.workers
 IsThere setup incoming = Unit {0}
 
 module _ (setup : Setup) (is : IsSetup setup) (w : ℕ) (incoming : Incoming) (h : List Event) (world : World) (g : Good setup h world) (asks : AllByRecursion (IsAsked setup.workers) (own w h)) (here : w < setup.workers) where
-  owned_there : (i : Incoming) → IsThere setup i → AreThere setup.workers (owned_in (polls_of w i world) i (holding w (seat w world))).alerts
-  owned_there (TakesPacket from p) there = line_there setup.workers (polls_of w (TakesPacket from p) world).publish from p.line (holding w (seat w world)) there (marks_there setup w (world.rows w) (own w h) (world.workers w).owner (g.keeps w).stands asks)
-  owned_there (ClockReads t) there = tt
-  owned_there Reaps there = tt
-  owned_there (Posts c body) there = tt
-  owned_there (Subscribes k list start) there = tt
-  owned_there (Informs c) there = tt
+  known : Known setup w (world.rows w) (world.workers w).owner
+  known = record { history = own w h; keeps = g.keeps w; asked = asks }
+
+  owned_there : (i : Incoming) → IsThere setup i → PartAlerts (λ a. a.to < setup.workers) (owned_in (polls_of w i world) i (holding w (seat w world)))
+  owned_there (TakesPacket from p) there = (
+    tt,
+    line_there setup.workers (polls_of w (TakesPacket from p) world).publish from p.line (holding w (seat w world)) there (marks_there setup w (world.rows w) (own w h) (world.workers w).owner (g.keeps w).stands asks)
+        (λ r c. deletion_there setup w from r c (world.rows w) (world.workers w).owner there known),
+  )
+  owned_there (ClockReads t) there = (tt, tt)
+  owned_there Reaps there = (sweeps_there setup w (world.rows w) (world.workers w).owner (g.owns w) known, tt)
+  owned_there (Posts c body) there = (tt, tt)
+  owned_there (Subscribes k list start) there = (tt, tt)
+  owned_there (Removes c) there = (tt, tt)
+  owned_there (Informs c) there = (tt, tt)
 
   before_between : (i : Incoming) → AllByRecursion (IsBetween setup.workers) (before setup w i world)
   before_between (TakesPacket from p) = (tt, tt)
@@ -113,6 +124,7 @@ module _ (setup : Setup) (is : IsSetup setup) (w : ℕ) (incoming : Incoming) (h
   before_between Reaps = tt
   before_between (Posts c body) = (tt, tt)
   before_between (Subscribes k list start) = (tt, tt)
+  before_between (Removes c) = (tt, tt)
   before_between (Informs c) = (tt, tt)
 
   owner_between : (e : Event) → IsOfOwner w e → IsBetween setup.workers e
@@ -127,8 +139,7 @@ module _ (setup : Setup) (is : IsSetup setup) (w : ℕ) (incoming : Incoming) (h
   step_between there =
       all_append (IsBetween setup.workers) (before setup w incoming world ++ part w incoming world) (behind setup w incoming world)
       (all_append (IsBetween setup.workers) (before setup w incoming world) (part w incoming world) (before_between incoming)
-      (woven_made (IsBetween setup.workers) (λ (a : OutLine). a.to < setup.workers) w (λ n a q. (here, q)) (world.workers w).next (owns w incoming world).events (owns w incoming world).alerts
-      (all_of (IsOfOwner w) (IsBetween setup.workers) owner_between (owns w incoming world).events (of setup is w incoming h world g)) (owned_there incoming there)))
+      (part_made setup is w incoming h world g (IsBetween setup.workers) (λ (a : OutLine). a.to < setup.workers) owner_between (λ n a q. (here, q)) (owned_there incoming there)))
       (told_made (IsBetween setup.workers) (AsksOwner setup.workers) w _ (λ to n a q. (here, asked_there setup.workers to a is.0 q)) (serves setup w incoming world).deeds
       (deeds_do setup.workers w (IsBetween setup.workers) worker_between (serves setup w incoming world).deeds (well setup is w incoming h world g))
       (deeds_make setup.workers w (serves setup w incoming world).deeds (well setup is w incoming h world g)))
@@ -205,6 +216,7 @@ input_there setup w h (ClockReads t) i = tt
 input_there setup w h Reaps i = tt
 input_there setup w h (Posts c body) i = tt
 input_there setup w h (Subscribes k list start) i = tt
+input_there setup w h (Removes c) i = tt
 input_there setup w h (Informs c) i = tt
 
 step_pairs : (setup : Setup) (is : IsSetup setup) (w : ℕ) (incoming : Incoming) (h : List Event) (world : World) → Reached setup h world → Good setup h world → w < setup.workers → IsThere setup incoming → PairsKept setup h → PairsKept setup (onto (handled_events setup w incoming world) h)

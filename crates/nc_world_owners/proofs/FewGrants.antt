@@ -11,7 +11,8 @@ use Rattle.nc_journal.specs.Leaving.{grants_since, most_grants}
 use Rattle.nc_journal.specs.declared.event.Event.{Event}
 use Rattle.nc_journal.specs.declared.event.Event.TheVariants.{Parted, Stored, Looked, Granted, Removed, Made}
 use Rattle.nc_journal.specs.declared.word.LeftCause.{LeftCause}
-use Rattle.nc_journal.specs.declared.word.LeftCause.TheVariants.{Expired, Spent, Length}
+use Rattle.nc_journal.specs.declared.word.LeftCause.TheVariants.{Expired, Spent, Length, Deleted}
+use Rattle.nc_journal.specs.declared.word.RemovedCause.{RemovedCause}
 use Rattle.nc_buffer.specs.declared.entry.Entry.{Entry}
 use Rattle.nc_buffer.specs.Buffer.{is_expired, is_spent}
 use Rattle.nc_slots.specs.declared.slot.Slot.{Slot}
@@ -28,6 +29,7 @@ use Rattle.nc_owner.specs.Poll.{freed_event, freed_events, free_slots}
 use Rattle.nc_owner.specs.Publish.{Polls, Outcome, late, stored, full, asked, roomy, leaving, lowest_slot, stamp, stored_event, granted_events, post_events, stored_events, roomy_events, cleared_events, publish_cleared, publish_outcome, publish_events, publish_alerts}
 use Rattle.nc_owner.specs.Look.{found_on, found_line, looked_event, found_events, look_ready, look_events, look_alerts}
 use Rattle.nc_owner.specs.OtherSteps.{touch_events_of, join_events, part_events, info_alerts, polled_events}
+use Rattle.nc_owner.specs.Remove.{removal_lefts, removal_events, removal_alerts}
 use Rattle.nc_owner_laws.specs.Ascends.{IsAscending}
 use Rattle.nc_owner_laws.specs.Counted.{SlotsCount}
 use Rattle.nc_owner_laws.specs.Filters.{is_marked, marks_in}
@@ -83,6 +85,9 @@ no_parted false w c m = tt
 
 no_touch : (c : List ℕ) (row : List (Slot Message)) (s : OwnerAt) → AllByRecursion IsGrantless (touch_events_of c row s)
 no_touch c row s = no_lefts s.desk.me c Expired (leavers (is_expired s.desk.clock) (bench_of c row s))
+
+no_removal : (c : List ℕ) (cause : RemovedCause) (s : OwnerAt) → AllByRecursion IsGrantless (removal_events c cause s)
+no_removal c cause s = all_append IsGrantless (removal_lefts c Deleted s) _ (no_lefts s.desk.me c Deleted (entries_of (opened c s))) (tt, tt)
 
 few_same : (es h : List Event) → AllByRecursion IsGrantless es → AreFewGrants h → AreFewGrants (onto es h)
 few_same es h a f slot = subst (λ (n : ℕ). n ≤ most_grants) (sym (grantless_onto slot es h a)) (f slot)
@@ -311,7 +316,8 @@ grants_theme setup ok me = record {
         join = λ m c owns there. record { counted = k.join m c owns there; asked = a.join m c owns there; few = few_woven me next (join_events m c row s) [] h (all_append IsGrantless (touch_events_of c row s) _ (no_touch c row s) (tt, tt)) fact.few };
         part = λ m c owns there. record { counted = k.part m c owns there; asked = a.part m c owns there; few = few_woven me next (part_events m c row s) [] h (all_append IsGrantless (touch_events_of c row s) _ (no_touch c row s) (no_parted (has_member m (opened c s).members) s.desk.me c m)) fact.few };
         info = λ from r c owns there. record { counted = k.info from r c owns there; asked = a.info from r c owns there; few = few_woven me next (touch_events_of c row s) (info_alerts from r c row s) h (no_touch c row s) fact.few };
-        sweep = λ c. record { counted = k.sweep c; asked = a.sweep c; few = few_woven me next (touch_events_of c row s) [] h (no_touch c row s) fact.few };
+        touch = λ c owns. record { counted = k.touch c owns; asked = a.touch c owns; few = few_woven me next (touch_events_of c row s) [] h (no_touch c row s) fact.few };
+        remove = λ c cause owns may. record { counted = k.remove c cause owns may; asked = a.remove c cause owns may; few = few_woven me next (removal_events c cause s) (removal_alerts c s) h (no_removal c cause s) fact.few };
         look = λ from number c id owns there. record { counted = k.look from number c id owns there; asked = a.look from number c id owns there; few = few_look me next from number c id row h s (entries_count row h s base.keeps.stands.fits fact.counted c) fact.few };
         polled = λ answers each. record { counted = k.polled answers each; asked = a.polled answers each; few = few_woven me next (polled_events answers s) [] h (no_freed s.desk.me (free_slots answers)) fact.few };
         publish = λ from o polls owns there fit. record {

@@ -1,41 +1,37 @@
 -- What leaves a buffer leaves by the rule, in each owner's history.
-use Rattle.std.proofs.Common.{◌≡◌, ◌⊎◌, inl, inr, ℕ, ◌≤◌, List, [], ◌∷◌, ◌++◌, refl, sym, ◌∙◌, subst, map}
+use Rattle.std.proofs.Common.{◌≡◌, ℕ, ◌≤◌, List, [], ◌∷◌, ◌++◌, sym, ◌∙◌, subst}
 use Rattle.std.specs.List.{AllByRecursion}
 use Rattle.nc_types.specs.Channel.{owner_of}
 use Rattle.nc_types.specs.Message.{Message}
-use Rattle.nc_journal.specs.History.{own, onto, Along}
-use Rattle.nc_journal.specs.Message.{published}
-use Rattle.nc_journal.specs.Sending.{HasId}
-use Rattle.nc_journal.specs.Stamp.{IsStamped}
+use Rattle.nc_journal.specs.History.{onto}
 use Rattle.nc_journal.specs.Leaving.{IsLeavingRule, LeftAt, FindsAt, NoneExpired, grants_since, most_grants}
 use Rattle.nc_journal.specs.declared.event.Event.{Event}
 use Rattle.nc_journal.specs.declared.event.Event.TheVariants.{Clock, Joined, Parted, Raised, Stored, Left, Looked, Edged, Removed, Made}
-use Rattle.nc_journal.specs.declared.word.LeftCause.TheVariants.{Expired}
+use Rattle.nc_journal.specs.declared.word.RemovedCause.{RemovedCause}
+use Rattle.nc_journal.specs.declared.word.RemovedCause.TheVariants.{Reaped, Deleted as ByDeletion}
 use Rattle.nc_journal.specs.declared.alert.AlertLine.TheVariants.{EdgeAnswer}
 use Rattle.nc_journal.proofs.Cuts.{cut-push}
 use Rattle.nc_journal.proofs.Leavings.{left-more}
 use Rattle.nc_buffer.specs.declared.entry.Entry.{Entry}
-use Rattle.nc_buffer.specs.Buffer.{is_expired}
 use Rattle.nc_slots.specs.declared.slot.Slot.{Slot}
-use Rattle.nc_owner.specs.State.{OwnerAt, entries_of, opened, bench_of}
-use Rattle.nc_owner.specs.Leave.{left_event, leavers}
+use Rattle.nc_owner.specs.State.{OwnerAt, entries_of, opened}
 use Rattle.nc_owner.specs.Edge.{last_in}
 use Rattle.nc_owner.specs.Publish.{publish_events, publish_alerts}
 use Rattle.nc_owner.specs.Look.{look_events, look_alerts}
 use Rattle.nc_owner.specs.OtherSteps.{touch_events_of, join_events, part_events, info_alerts, polled_events}
+use Rattle.nc_owner.specs.Remove.{removal_events, removal_alerts}
 use Rattle.nc_owner_laws.specs.Aside.{IsAside}
-use Rattle.nc_owner_laws.specs.Buffered.{LeavesStored}
-use Rattle.nc_owner_laws.specs.LeavingKept.{AreCounted}
+use Rattle.nc_owner_laws.specs.LeavingKept.{AreCounted, StepsLeave}
+use Rattle.nc_owner_laws.specs.Removing.{removed_onto}
 use Rattle.nc_owner_laws.specs.Weave.{weave}
 use Rattle.nc_owner_laws.proofs.Counting.{entries_count}
 use Rattle.nc_owner_laws.proofs.LeavingKept.{others_leave, publish_leaves}
 use Rattle.nc_worker_state.specs.Setup.{Setup}
 use Rattle.nc_world.specs.Reached.{IsSetup}
-use Rattle.nc_world_laws.specs.OwnerTheme.{OwnerFact, StepBase, IsOwnerTheme}
+use Rattle.nc_world_laws.specs.OwnerTheme.{OwnerFact, MayGo, IsOwnerTheme}
 use Rattle.nc_world_laws.proofs.Local.{all_of}
-use Rattle.nc_world_laws.proofs.Stepping.{is_me, as_me, keeps_steps}
+use Rattle.nc_world_laws.proofs.Stepping.{is_me, as_me}
 use Rattle.nc_world_owners.specs.Grants.{AreFewGrants}
-use Rattle.nc_world_owners.proofs.Gluing.{stored_there}
 use Rattle.nc_world_owners.proofs.FewGrants.{GrantsKept, grants_theme}
 
 -- ---- beside the owner
@@ -59,20 +55,7 @@ leaves_more workers h e left finds k = record {
   finds = (k.finds, finds);
 }
 
--- ---- a sweep of a channel that isn't owned finds nothing
-
-along_older : (P : List Event → Event → Type 0) (es h : List Event) → Along P (onto es h) → Along P h
-along_older P [] h a = a
-along_older P (e ∷ es) h a = (along_older P es (e ∷ h) a).0
-
-swept_owned : (workers me : ℕ) (next : ℕ → ℕ) (w : ℕ) (c : List ℕ) (leaving : List Entry) (h : List Event) → own me h ≡ h → IsStamped workers h
-    → Along LeavesStored (onto (weave me next (map (left_event w c Expired) leaving) []) h) → (map (left_event w c Expired) leaving ≡ []) ⊎ (owner_of workers c ≡ me)
-swept_owned workers me next w c [] h local stamped stored = inl refl
-swept_owned workers me next w c (e ∷ leaving) h local stamped stored =
-    let has = (along_older LeavesStored (weave me next (map (left_event w c Expired) leaving) []) (left_event w c Expired e ∷ h) stored).1 in
-    inr (sym (stored_there workers me c e.id h (subst (IsStamped workers) (sym local) stamped) (subst (λ (l : List Event). HasId (published c l) e.id) (sym local) has)))
-
--- ---- on a channel that was swept nothing has expired
+-- ---- on a channel that was touched nothing has expired
 
 -- a join would find nothing there that has
 none_expired : (workers : ℕ) (next : ℕ → ℕ) (w : ℕ) (c : List ℕ) (h touch : List Event) → touch ≡ [] → IsLeavingRule workers (onto (weave w next (touch ++ Joined w c 0 0 ∷ []) []) h) → NoneExpired w c h
@@ -114,7 +97,8 @@ leaving_theme setup ok me = record {
         join = λ m c owns there. record { grants = g.join m c owns there; leaves = as_me rule me next h s is (join_events m c row s) [] (k.join m c (owns ∙ sym is)) };
         part = λ m c owns there. record { grants = g.part m c owns there; leaves = as_me rule me next h s is (part_events m c row s) [] (k.part m c (owns ∙ sym is)) };
         info = λ from r c owns there. record { grants = g.info from r c owns there; leaves = as_me rule me next h s is (touch_events_of c row s) (info_alerts from r c row s) (k.info from r c (owns ∙ sym is)) };
-        sweep = λ c. record { grants = g.sweep c; leaves = swept next row counts h s base fact c is (swept_owned setup.workers me next s.desk.me c (leavers (is_expired s.desk.clock) (bench_of c row s)) h stands.local stands.stamped ((keeps_steps setup me next row counts h s base).sweep c).stands.stored) };
+        touch = λ c owns. record { grants = g.touch c owns; leaves = as_me rule me next h s is (touch_events_of c row s) [] (k.sweep c (owns ∙ sym is)) };
+        remove = λ c cause owns may. record { grants = g.remove c cause owns may; leaves = as_me rule me next h s is (removal_events c cause s) (removal_alerts c s) (removed next row h s k cause c (owns ∙ sym is) may) };
         look = λ from number c id owns there. record {
           grants = g.look from number c id owns there;
           leaves = as_me rule me next h s is (look_events from number c id row s) (look_alerts from number c id row s)
@@ -132,8 +116,6 @@ leaving_theme setup ok me = record {
     none [] e older is = absurd cc
     none (x ∷ newer) e older is = absurd cc
 
-    swept : (next : ℕ → ℕ) (row : List (Slot Message)) (counts : List ℕ) (h : List Event) (s : OwnerAt) → StepBase setup me row counts h s → LeavingFacts setup row h → (c : List ℕ) → s.desk.me ≡ me
-        → (touch_events_of c row s ≡ []) ⊎ (owner_of setup.workers c ≡ me) → IsLeavingRule setup.workers (onto (weave me next (touch_events_of c row s) []) h)
-    swept next row counts h s base fact c is (inl none) = subst (λ (es : List Event). IsLeavingRule setup.workers (onto (weave me next es []) h)) (sym none) fact.leaves
-    swept next row counts h s base fact c is (inr owns) =
-        as_me (IsLeavingRule setup.workers) me next h s is (touch_events_of c row s) [] ((others_leave me setup.workers setup.slots setup.first next row h s base.keeps.stands fact.leaves).sweep c (owns ∙ sym is))
+    removed : (next : ℕ → ℕ) (row : List (Slot Message)) (h : List Event) (s : OwnerAt) → StepsLeave setup.workers next row h s → (cause : RemovedCause) (c : List ℕ) → owner_of setup.workers c ≡ s.desk.me → MayGo cause c s → IsLeavingRule setup.workers (removed_onto next c cause h s)
+    removed next row h s k ByDeletion c owns may = k.delete c owns
+    removed next row h s k Reaped c owns may = k.remove_empty c Reaped owns may.0

@@ -7,11 +7,12 @@ use Rattle.nc_types.specs.Channel.{owner_of}
 use Rattle.nc_journal.specs.History.{own, is_by, Along}
 use Rattle.nc_journal.specs.Stamp.{IsStamped, StampedAt, clock_of}
 use Rattle.nc_journal.specs.Message.{Message, buffer}
-use Rattle.nc_journal.specs.Leaving.{IsLeavingRule, Leaves, LeavesBy, LeftAt, FindsAt, NoneExpired, HasMessage, StandsFirst, MakesRoom, MakesWay, is_expired, grants_since, most_grants}
+use Rattle.nc_journal.specs.Leaving.{IsLeavingRule, Leaves, LeavesBy, LeftAt, FindsAt, NoneExpired, HasMessage, StandsFirst, MakesRoom, MakesWay, GoesNext, GoesToo, is_expired, grants_since, most_grants}
 use Rattle.nc_journal.specs.declared.event.Event.{Event}
 use Rattle.nc_journal.specs.declared.event.Event.TheVariants.{Stored, Left, Looked, Edged, Joined, Parted, Removed}
 use Rattle.nc_journal.specs.declared.word.LeftCause.{LeftCause}
 use Rattle.nc_journal.specs.declared.word.LeftCause.TheVariants.{Length, Expired, Deleted, Spent}
+use Rattle.nc_journal.specs.declared.word.RemovedCause.TheVariants.{Deleted as ByDeletion}
 use Rattle.nc_owner_laws.specs.Buffered.{LeavesStored}
 use Rattle.nc_world_laws.proofs.Local.{eqb_self, own_one, own_twice}
 use Rattle.nc_world_owners.specs.ByOwner.{IsByChannelOwner, AreByChannelOwners}
@@ -87,6 +88,11 @@ module _ (workers : ℕ) where
         full = subst (λ (ms : List Message). r.len - 1 < length ms) (sym same) r.full;
       }
 
+  lift_goes : (w : ℕ) (c : List ℕ) (newer : List Event) → GoesNext w c (own w newer) → GoesNext w c newer
+  lift_goes w c newer r =
+      let l = lifted w newer r.after (Removed w c r.last ByDeletion) r.between r.next in
+      record { after = l.newer; last = r.last; between = l.older; next = l.cut; too = subst (AllByRecursion (GoesToo c)) (ap (own w) (sym l.same) ∙ own_twice w l.older) r.too }
+
   lift_cause : (cause : LeftCause) (w : ℕ) (c : List ℕ) (id : Id) (slot : ℕ) (newer older : List Event) → buffer c older ≡ buffer c (own w older) → LeavesBy cause w c id slot (own w newer) (own w older) → LeavesBy cause w c id slot newer older
   lift_cause Expired w c id slot newer older same l =
       subst (λ (ms : List Message). HasMessage (λ m. is_expired (clock_of (own w older)) m ≡ true) ms id slot) (sym same)
@@ -95,7 +101,7 @@ module _ (workers : ℕ) where
   lift_cause Spent w c id slot newer older same l =
       subst (λ (ms : List Message). HasMessage (λ m. grants_since m.slot (own w older) ≡ most_grants) ms id slot) (sym same)
       (subst (λ (k : List Event). HasMessage (λ m. grants_since m.slot k ≡ most_grants) (buffer c (own w older)) id slot) (own_twice w older) l)
-  lift_cause Deleted w c id slot newer older same l = absurd l
+  lift_cause Deleted w c id slot newer older same l = (subst (λ (ms : List Message). StandsFirst ms id slot) (sym same) l.0, lift_goes w c newer l.1)
 
   lift_left : (h : List Event) → KeepBuffers h → ((v : ℕ) → IsLeavingRule workers (own v h)) → (newer : List Event) (e : Event) (older : List Event) → h ≡ newer ++ e ∷ older → LeftAt workers newer e older
   lift_left h k rule newer (Left w c id slot cause) older is =

@@ -1,6 +1,7 @@
 pub mod Slots
 pub mod Asked
 pub mod FewGrants
+pub mod Gones
 pub mod Gluing
 pub mod Channels
 pub mod LeavingLocal

@@ -8,6 +8,7 @@ use Rattle.nc_journal.specs.declared.event.Event.TheVariants.{Stored, Left, Gran
 use Rattle.nc_owner.specs.Publish.{publish_events, publish_alerts, publish_row}
 use Rattle.nc_owner.specs.Look.{look_events, look_alerts, look_row}
 use Rattle.nc_owner.specs.OtherSteps.{touch_events_of, touched_row, join_events, part_events, info_alerts, polled_events, polled_row}
+use Rattle.nc_owner.specs.Remove.{removal_events, removal_alerts, removed_row}
 use Rattle.nc_slots.specs.declared.slot.Slot.{Slot}
 use Rattle.nc_slots.specs.Slot.{slot_at}
 use Rattle.nc_types.specs.Message.{Message}
@@ -47,7 +48,8 @@ stages_theme setup me = record {
         join = λ m c owns there. as_me (AreStaged (touched_row c row s)) me next h s is (join_events m c row s) [] (k.join m c);
         part = λ m c owns there. as_me (AreStaged (touched_row c row s)) me next h s is (part_events m c row s) [] (k.part m c);
         info = λ from r c owns there. as_me (AreStaged (touched_row c row s)) me next h s is (touch_events_of c row s) (info_alerts from r c row s) (k.info from r c);
-        sweep = λ c. as_me (AreStaged (touched_row c row s)) me next h s is (touch_events_of c row s) [] (k.sweep c);
+        touch = λ c owns. as_me (AreStaged (touched_row c row s)) me next h s is (touch_events_of c row s) [] (k.sweep c);
+        remove = λ c cause owns may. as_me (AreStaged (removed_row c row s)) me next h s is (removal_events c cause s) (removal_alerts c s) (k.remove c cause);
         look = λ from number c id owns there. as_me (AreStaged (look_row from c id row s)) me next h s is (look_events from number c id row s) (look_alerts from number c id row s) (k.look from number c id);
         polled = λ answers each. as_me (AreStaged (polled_row answers row)) me next h s is (polled_events answers s) [] (k.polled answers each);
         publish = λ from o polls owns there fit. as_me (AreStaged (publish_row o polls row s)) me next h s is (publish_events from o polls row s) (publish_alerts from o polls row s)
@@ -85,7 +87,8 @@ slots_theme setup me = record {
         join = λ m c owns there. record { staged = k.join m c owns there; taken = as_me along me next h s is (join_events m c row s) [] (t.join m c) };
         part = λ m c owns there. record { staged = k.part m c owns there; taken = as_me along me next h s is (part_events m c row s) [] (t.part m c) };
         info = λ from r c owns there. record { staged = k.info from r c owns there; taken = as_me along me next h s is (touch_events_of c row s) (info_alerts from r c row s) (t.info from r c) };
-        sweep = λ c. record { staged = k.sweep c; taken = as_me along me next h s is (touch_events_of c row s) [] (t.sweep c) };
+        touch = λ c owns. record { staged = k.touch c owns; taken = as_me along me next h s is (touch_events_of c row s) [] (t.sweep c) };
+        remove = λ c cause owns may. record { staged = k.remove c cause owns may; taken = as_me along me next h s is (removal_events c cause s) (removal_alerts c s) (t.remove c cause) };
         look = λ from number c id owns there. record { staged = k.look from number c id owns there; taken = as_me along me next h s is (look_events from number c id row s) (look_alerts from number c id row s) (t.look from number c id) };
         polled = λ answers each. record { staged = k.polled answers each; taken = as_me along me next h s is (polled_events answers s) [] (t.polled answers each) };
         publish = λ from o polls owns there fit. record {
@@ -123,7 +126,8 @@ counts_theme setup me = record {
         join = λ m c owns there. as_me (SlotsCount (touched_row c row s)) me next h s is (join_events m c row s) [] (k.join m c);
         part = λ m c owns there. as_me (SlotsCount (touched_row c row s)) me next h s is (part_events m c row s) [] (k.part m c);
         info = λ from r c owns there. as_me (SlotsCount (touched_row c row s)) me next h s is (touch_events_of c row s) (info_alerts from r c row s) (k.info from r c);
-        sweep = λ c. as_me (SlotsCount (touched_row c row s)) me next h s is (touch_events_of c row s) [] (k.sweep c);
+        touch = λ c owns. as_me (SlotsCount (touched_row c row s)) me next h s is (touch_events_of c row s) [] (k.sweep c);
+        remove = λ c cause owns may. as_me (SlotsCount (removed_row c row s)) me next h s is (removal_events c cause s) (removal_alerts c s) (k.remove c cause);
         look = λ from number c id owns there. as_me (SlotsCount (look_row from c id row s)) me next h s is (look_events from number c id row s) (look_alerts from number c id row s) (k.look from number c id);
         polled = λ answers each. as_me (SlotsCount (polled_row answers row)) me next h s is (polled_events answers s) [] (k.polled answers);
         publish = λ from o polls owns there fit. as_me (SlotsCount (publish_row o polls row s)) me next h s is (publish_events from o polls row s) (publish_alerts from o polls row s) (k.publish from o polls);

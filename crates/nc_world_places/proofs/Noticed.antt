@@ -18,10 +18,10 @@ use Rattle.nc_owner.specs.State.{Bench, exists}
 use Rattle.nc_owner.specs.Publish.{Polls, Outcome, late, stored, full as is_all, notices, answer, stamp, stored_status, store_bench, asked, roomy, lowest_slot, post_alerts, publish_outcome, publish_cleared, info_of}
 use Rattle.nc_owner.specs.Look.{found_on, found_line, look_ready}
 use Rattle.nc_owner.specs.OtherSteps.{touched_of}
-use Rattle.nc_owner_laws.specs.Kinds.{IsOfOwner}
+use Rattle.nc_owner_laws.proofs.Sweeping.{deletion_told}
 use Rattle.nc_worker_state.specs.Setup.{Setup}
-use Rattle.nc_worker_state.specs.Incoming.{Incoming, TakesPacket, ClockReads, Reaps, Posts, Subscribes, Informs}
-use Rattle.nc_worker_state.specs.Owned.{Holding, StepPolls, fenced, owned_by, owned_in, order_of}
+use Rattle.nc_worker_state.specs.Incoming.{Incoming, TakesPacket, ClockReads, Reaps, Posts, Subscribes, Removes, Informs}
+use Rattle.nc_worker_state.specs.Owned.{Holding, fenced, owned_by, order_of}
 use Rattle.nc_worker_state.specs.Worker.{holding}
 use Rattle.nc_worker_state.specs.Deed.{next_after}
 use Rattle.nc_world.specs.World.{World, seat, polls_of, handled_events}
@@ -29,17 +29,17 @@ use Rattle.nc_world.specs.Reached.{IsSetup, IsInput}
 use Rattle.nc_world_laws.specs.Good.{Good, IsLineTo}
 use Rattle.nc_world_laws.specs.Kinds.{IsUnmade, AsksOwner}
 use Rattle.nc_world_laws.specs.WorldTheme.{IsWorldTheme}
-use Rattle.nc_world_laws.proofs.Local.{all_append, all_of, eq_of}
+use Rattle.nc_world_laws.proofs.Local.{all_append, eq_of}
 use Rattle.nc_world_laws.proofs.Frames.{own_step, handled_onto}
 use Rattle.nc_world_laws.proofs.Moving.{taken_right}
-use Rattle.nc_world_laws.proofs.Parts.{owns, serves, before, part, behind, of, well, step_by}
-use Rattle.nc_world_laws.proofs.Telling.{woven_made, told_made, deeds_do, deeds_make, unmade_owner, unmade_worker}
+use Rattle.nc_world_laws.proofs.Parts.{serves, before, part, behind, well, part_alerts, part_made, step_by}
+use Rattle.nc_world_laws.proofs.Telling.{told_made, deeds_do, deeds_make, unmade_owner, unmade_worker}
 use Rattle.nc_world_laws.proofs.WorldThemes.{world_theme_holds}
 use Rattle.nc_world_places.specs.Notices.{IsNoticeOf, MakesNoticeOf, OwnersNotice, ReachedOwnersNotice}
 
 -- what comes to an owner is of its channels
 abbrev pub ComesRight : ℕ → ℕ → Incoming → Type 0
-ComesRight workers x (TakesPacket from p) = IsLineTo workers x p.line
+ComesRight workers x (TakesPacket from p) = IsLineTo workers from x p.line
 ComesRight workers x incoming = Unit {0}
 
 module _ (workers x : ℕ) where
@@ -68,7 +68,7 @@ module _ (workers x : ℕ) where
   notice_info r true info = tt
   notice_info r false info = tt
 
-  notice_line : (polls : Polls) (from : ℕ) (line : AlertLine) (s : Holding) → IsLineTo workers x line → AreNotices (owned_by polls from line s).alerts
+  notice_line : (polls : Polls) (from : ℕ) (line : AlertLine) (s : Holding) → IsLineTo workers from x line → AreNotices (owned_by polls from line s).alerts
   notice_line polls from (lines.Publish r c len timeout ct body) s right = let o = order_of r c len timeout ct body in notice_post (publish_outcome o polls s.row s.owner) from o polls (publish_cleared o polls s.row s.owner) right.0
   notice_line polls from (lines.Look number c after fence) s right = let b = look_ready c s.row (fenced fence s).owner in (notice_found from number (found_on after b) b.desk, tt)
   notice_line polls from (lines.Info r c) s right = (notice_info r (exists c s.owner) (Some (info_of (touched_of c s.row s.owner).channel)), tt)
@@ -79,18 +79,10 @@ module _ (workers x : ℕ) where
   notice_line polls from (lines.Notice c id g slot) s right = tt
   notice_line polls from (lines.Edge number k c fence) s right = (tt, tt)
   notice_line polls from (lines.EdgeAnswer number q floor last) s right = tt
-  notice_line polls from (lines.Delete r c) s right = tt
+  notice_line polls from (lines.Delete r c) s right = deletion_told (λ (a : OutLine). IsNoticeOf workers x a.line) c (λ ms w. tt) from r s.row s.owner (λ status info is. tt)
   notice_line polls from (lines.DelAnswer r status info) s right = tt
   notice_line polls from (lines.Gone c subs) s right = tt
   notice_line polls from (lines.InfoAnswer r status info) s right = tt
-
-  notice_owned : (polls : StepPolls) (incoming : Incoming) (s : Holding) → ComesRight workers x incoming → AreNotices (owned_in polls incoming s).alerts
-  notice_owned polls (TakesPacket from p) s right = notice_line polls.publish from p.line s right
-  notice_owned polls (ClockReads t) s right = tt
-  notice_owned polls Reaps s right = tt
-  notice_owned polls (Posts c body) s right = tt
-  notice_owned polls (Subscribes k list start) s right = tt
-  notice_owned polls (Informs c) s right = tt
 
   unmade_notice : (e : Event) → IsUnmade e → MakesNoticeOf workers x e
   unmade_notice (Made v to n a) p = absurd p
@@ -127,6 +119,7 @@ module _ (setup : Setup) (is : IsSetup setup) (x : ℕ) (incoming : Incoming) (h
       by Reaps = tt
       by (Posts c body) = (tt, tt)
       by (Subscribes k list start) = (tt, tt)
+      by (Removes c) = (tt, tt)
       by (Informs c) = (tt, tt)
 
   step_notice : (l : List Event) → AllByRecursion (MakesNoticeOf setup.workers x) l → AllByRecursion (MakesNoticeOf setup.workers x) (onto (handled_events setup x incoming world) l)
@@ -137,9 +130,9 @@ module _ (setup : Setup) (is : IsSetup setup) (x : ℕ) (incoming : Incoming) (h
       (deeds_do setup.workers x (MakesNoticeOf setup.workers x) (λ e p. unmade_notice setup.workers x e (unmade_worker x e p)) (serves setup x incoming world).deeds (well setup is x incoming h world g))
       (deeds_make setup.workers x (serves setup x incoming world).deeds (well setup is x incoming h world g)))
       (all_onto (MakesNoticeOf setup.workers x) (part x incoming world) _
-      (woven_made (MakesNoticeOf setup.workers x) (λ (a : OutLine). IsNoticeOf setup.workers x a.line) x (λ n a p. p) (world.workers x).next (owns x incoming world).events (owns x incoming world).alerts
-      (all_of (IsOfOwner x) (MakesNoticeOf setup.workers x) (λ e p. unmade_notice setup.workers x e (unmade_owner x e p)) (owns x incoming world).events (of setup is x incoming h world g))
-      (notice_owned setup.workers x (polls_of x incoming world) incoming (holding x (seat x world)) right))
+      (part_made setup is x incoming h world g (MakesNoticeOf setup.workers x) (λ (a : OutLine). IsNoticeOf setup.workers x a.line) (λ e p. unmade_notice setup.workers x e (unmade_owner x e p)) (λ n a p. p)
+      (part_alerts setup is x incoming h world g (λ (a : OutLine). IsNoticeOf setup.workers x a.line)
+      (λ from p e. notice_line setup.workers x (polls_of x incoming world).publish from p.line (holding x (seat x world)) (subst (ComesRight setup.workers x) e right)) (λ c subs to mine. tt)))
       (all_onto (MakesNoticeOf setup.workers x) (before setup x incoming world) l opening_notice k)))
 
   handled_notice : ((v : ℕ) → AllByRecursion (MakesNoticeOf setup.workers v) (own v h)) → (v : ℕ) → AllByRecursion (MakesNoticeOf setup.workers v) (own v (onto (handled_events setup x incoming world) h))
@@ -158,6 +151,7 @@ input_right workers x (ClockReads t) h i = tt
 input_right workers x Reaps h i = tt
 input_right workers x (Posts c body) h i = tt
 input_right workers x (Subscribes k list start) h i = tt
+input_right workers x (Removes c) h i = tt
 input_right workers x (Informs c) h i = tt
 
 notice_theme : (setup : Setup) → IsSetup setup → IsWorldTheme setup (OwnersNotice setup.workers)

@@ -14,7 +14,7 @@ use Rattle.nc_spool_laws.specs.Standing.{IsWhole}
 use Rattle.nc_spool_laws.proofs.Lists.{all-changed}
 use Rattle.nc_history.specs.Packets.{Packet}
 use Rattle.nc_worker_state.specs.Setup.{Setup}
-use Rattle.nc_worker_state.specs.Incoming.{Incoming, TakesPacket, ClockReads, Reaps, Posts, Subscribes, Informs}
+use Rattle.nc_worker_state.specs.Incoming.{Incoming, TakesPacket, ClockReads, Reaps, Posts, Subscribes, Removes, Informs}
 use Rattle.nc_worker_state.specs.Worker.{WorkerAt, with_at, dealt_worker}
 use Rattle.nc_world.specs.World.{World, handled_events, handled}
 use Rattle.nc_world.specs.Moves.{Handles, Takes, carried_one, with_ring, taken_events, taken}
@@ -93,6 +93,7 @@ module _ (setup : Setup) (is : IsSetup setup) where
       by Reaps q = tt
       by (Posts c body) q = tt
       by (Subscribes n list start) q = tt
+      by (Removes c) q = tt
       by (Informs c) q = tt
 
   taken_reached : (w v : ℕ) (p : Packet) (ps ring : List Packet) (h : List Event) (world : World) → ring ≡ p ∷ ps → Reached setup (onto (taken_events setup w v ring world) h) (taken setup w v ring world)

@@ -15,7 +15,7 @@ use Rattle.nc_spool_laws.proofs.Local.{whole-kept}
 use Rattle.nc_spool_laws.proofs.Order.{order-kept}
 use Rattle.nc_spool_laws.proofs.Waiting.{all-restful}
 use Rattle.nc_worker_state.specs.Setup.{Setup}
-use Rattle.nc_worker_state.specs.Incoming.{Incoming, TakesPacket, ClockReads, Reaps, Posts, Subscribes, Informs}
+use Rattle.nc_worker_state.specs.Incoming.{Incoming, TakesPacket, ClockReads, Reaps, Posts, Subscribes, Removes, Informs}
 use Rattle.nc_worker_state.specs.Desk.{Desk, Served, replied, is_waiting, handled, begun, served}
 use Rattle.nc_worker_state.specs.Spooled.{found_by, found_in}
 use Rattle.nc_world_laws.proofs.Local.{either}
@@ -75,6 +75,7 @@ module _ (me : ℕ) (d : Desk) (k : IsShaped d.spools.shelf) where
   begun_shaped setup (ClockReads t) = k
   begun_shaped setup Reaps = k
   begun_shaped setup (Posts c body) = k
+  begun_shaped setup (Removes c) = k
   begun_shaped setup (Informs c) = k
   begun_shaped setup (Subscribes n list start) = record {
     whole = whole-kept.arrive (record { k = n; once = true }) list start (board_of d.spools) tt k.whole;

@@ -14,7 +14,7 @@ use Rattle.nc_journal.specs.declared.alert.AlertLine.{AlertLine}
 use Rattle.nc_journal.specs.declared.alert.AlertLine.TheVariants as lines
 use Rattle.nc_owner_laws.specs.Used.{times}
 use Rattle.nc_spool.specs.declared.spools.Found.{Found}
-use Rattle.nc_spool.specs.Calls.{SpoolsAt, board_of, arrive_after, answer_after, notice_after, edge_facts, edge_after}
+use Rattle.nc_spool.specs.Calls.{SpoolsAt, board_of, arrive_after, answer_after, notice_after, edge_facts, edge_after, gone_after}
 use Rattle.nc_spool_state.specs.Kept.{is_idle}
 use Rattle.nc_spool_laws.specs.Knowing.{IsKnowing}
 use Rattle.nc_spool_laws.proofs.Knowledge.{knowing-kept}
@@ -23,10 +23,10 @@ use Rattle.nc_spool_members.specs.Singly.{StandSingly}
 use Rattle.nc_spool_members.proofs.Singles.{keep-singly}
 use Rattle.nc_history.specs.Packets.{packet, kind_of, IsNext}
 use Rattle.nc_worker_state.specs.Setup.{Setup}
-use Rattle.nc_worker_state.specs.Incoming.{Incoming, TakesPacket, ClockReads, Reaps, Posts, Subscribes, Informs}
+use Rattle.nc_worker_state.specs.Incoming.{Incoming, TakesPacket, ClockReads, Reaps, Posts, Subscribes, Removes, Informs}
 use Rattle.nc_worker_state.specs.Deed.{Deed, told}
 use Rattle.nc_worker_state.specs.Desk.{replied}
-use Rattle.nc_worker_state.specs.Spooled.{Hold, answers, arrives, edges, notices, found_by, found_in, releases}
+use Rattle.nc_worker_state.specs.Spooled.{Hold, answers, arrives, edges, notices, loses, found_by, found_in, releases}
 use Rattle.nc_world.specs.World.{World, handled_events}
 use Rattle.nc_world.specs.Reached.{IsSetup}
 use Rattle.nc_world_laws.specs.Good.{Good, IsLineTo}
@@ -40,6 +40,7 @@ use Rattle.nc_world_told.proofs.Written.{written_is, place_written}
 use Rattle.nc_world_calls.specs.Answering.{answer_of}
 use Rattle.nc_world_calls.proofs.Knowing.{Was, Rested, Came, knows_of, holds_of, all_were, answer_knows}
 use Rattle.nc_world_calls.proofs.NoticeKnowing.{notice_knows}
+use Rattle.nc_world_calls.proofs.LossKnowing.{loss_knows}
 use Rattle.nc_world_calls.proofs.ArrivalKnowing.{arrival_knows}
 use Rattle.nc_world_places.specs.Notices.{IsNoticeOf}
 use Rattle.nc_world_places.specs.Places.{OwnersTell}
@@ -110,6 +111,17 @@ module _ (setup : Setup) (is : IsSetup setup) (x : ℕ) (h : List Event) (world 
           shelf_releases setup.workers x (world.workers x).next (notices x c found s).deeds (filter (is_idle new.shelf) new.kept) (Took x (owner_of setup.workers c) n kinds.Notice ∷ h) new.shelf
           (notice_knows setup.workers x n c found g slot kinds.Notice (world.workers x).next h s (tell.tells (owner_of setup.workers c)) now shaped.order shaped.whole ((keep-singly Hold s singly).notice c found).fit.0 holds)
 
+  -- a channel is gone
+  loss_line : (from n : ℕ) (c subs : List ℕ) → owner_of setup.workers c ≡ from → IsNext from x (lines.Gone c subs) h → After (TakesPacket from (packet n (lines.Gone c subs)))
+  loss_line from n c subs own first = subst (λ (v : ℕ). IsNext v x (lines.Gone c subs) h → After (TakesPacket v (packet n (lines.Gone c subs)))) own at first
+    where
+      at : IsNext (owner_of setup.workers c) x (lines.Gone c subs) h → After (TakesPacket (owner_of setup.workers c) (packet n (lines.Gone c subs)))
+      at now =
+          let s = (world.workers x).desk.spools in
+          let new = gone_after c subs (world.workers x).desk.spools in
+          shelf_releases setup.workers x (world.workers x).next (loses x c subs s).deeds (filter (is_idle new.shelf) new.kept) (Took x (owner_of setup.workers c) n kinds.Gone ∷ h) new.shelf
+          (loss_knows setup.workers x n c subs kinds.Gone (world.workers x).next h s now shaped.order shaped.whole ((keep-singly Hold s singly).removal c subs).fit.0 holds)
+
   -- an alert with which nothing is called
   plain_line : (from n : ℕ) (line : AlertLine) → IsNext from x line h → ((c : List ℕ) → is_signal c line ≡ false)
       → AllByRecursion (PlacesHold setup.workers x (onto (handled_events setup x (TakesPacket from (packet n line)) world) h)) (world.workers x).desk.spools.shelf
@@ -123,7 +135,7 @@ module _ (setup : Setup) (is : IsSetup setup) (x : ℕ) (h : List Event) (world 
   reply_line from n line r status info first quiet =
       subst (AllByRecursion (PlacesHold setup.workers x (onto (handled_events setup x (TakesPacket from (packet n line)) world) h))) (sym (replied_shelf x r status info (world.workers x).desk)) (plain_line from n line first quiet)
 
-  by_line : (from n : ℕ) (line : AlertLine) → IsNext from x line h → IsLineTo setup.workers x line → IsWholeLine line → IsNoticeOf setup.workers from line
+  by_line : (from n : ℕ) (line : AlertLine) → IsNext from x line h → IsLineTo setup.workers from x line → IsWholeLine line → IsNoticeOf setup.workers from line
       → AsksWell x (onto (handled_events setup x (TakesPacket from (packet n line)) world) h) → After (TakesPacket from (packet n line))
   by_line from n (lines.LookAnswer number q floor past g slot) first right whole noticed new = answer_line from n number q floor past g slot whole first (new.once number)
   by_line from n (lines.Notice c id g slot) first right whole noticed new = notice_line from n c id g slot noticed first
@@ -133,7 +145,7 @@ module _ (setup : Setup) (is : IsSetup setup) (x : ℕ) (h : List Event) (world 
       shelf_releases setup.workers x (world.workers x).next (edges x number floor last s).deeds (filter (is_idle after.shelf) after.kept) (Took x from n kinds.EdgeAnswer ∷ h) after.shelf
       (edge_knows setup.workers x number floor last (world.workers x).next s (Took x from n kinds.EdgeAnswer ∷ h)
       (shelf_takes setup.workers x from n kinds.EdgeAnswer (lines.EdgeAnswer number q floor last) h first (λ c. refl) s.shelf holds))
-  by_line from n (lines.Gone c subs) first right whole noticed new = absurd right
+  by_line from n (lines.Gone c subs) first right whole noticed new = loss_line from n c subs right first
   by_line from n (lines.PubAnswer r status info full) first right whole noticed new = reply_line from n (lines.PubAnswer r status info full) r status info first (λ c. refl)
   by_line from n (lines.InfoAnswer r status info) first right whole noticed new = reply_line from n (lines.InfoAnswer r status info) r status info first (λ c. refl)
   by_line from n (lines.DelAnswer r status info) first right whole noticed new = reply_line from n (lines.DelAnswer r status info) r status info first (λ c. refl)
@@ -147,7 +159,7 @@ module _ (setup : Setup) (is : IsSetup setup) (x : ℕ) (h : List Event) (world 
 
   -- what comes is what is next, whole, and of its sender's channels
   abbrev pub Comes : Incoming → Type 0
-  Comes (TakesPacket from p) = IsNext from x p.line h × IsLineTo setup.workers x p.line × IsWholeLine p.line × IsNoticeOf setup.workers from p.line
+  Comes (TakesPacket from p) = IsNext from x p.line h × IsLineTo setup.workers from x p.line × IsWholeLine p.line × IsNoticeOf setup.workers from p.line
   Comes incoming = Unit {0}
 
   pub own_places : (incoming : Incoming) → Comes incoming → AsksWell x (onto (handled_events setup x incoming world) h) → After incoming
@@ -155,6 +167,7 @@ module _ (setup : Setup) (is : IsSetup setup) (x : ℕ) (h : List Event) (world 
   own_places (ClockReads t) comes new = shelf_untaken setup.workers x (handled_events setup x (ClockReads t) world) h (world.workers x).desk.spools.shelf (tt, rest_untaken setup is x (ClockReads t) h world g) holds
   own_places Reaps comes new = shelf_untaken setup.workers x (handled_events setup x Reaps world) h (world.workers x).desk.spools.shelf (rest_untaken setup is x Reaps h world g) holds
   own_places (Posts c body) comes new = shelf_untaken setup.workers x (handled_events setup x (Posts c body) world) h (world.workers x).desk.spools.shelf (tt, rest_untaken setup is x (Posts c body) h world g) holds
+  own_places (Removes c) comes new = shelf_untaken setup.workers x (handled_events setup x (Removes c) world) h (world.workers x).desk.spools.shelf (tt, rest_untaken setup is x (Removes c) h world g) holds
   own_places (Informs c) comes new = shelf_untaken setup.workers x (handled_events setup x (Informs c) world) h (world.workers x).desk.spools.shelf (tt, rest_untaken setup is x (Informs c) h world g) holds
   own_places (Subscribes k list start) comes new =
       let s = (world.workers x).desk.spools in

@@ -50,7 +50,7 @@ module _ (setup : Setup) (is : IsSetup setup) where
   at_quiet h world r none = record {
     started = nobody_starts_at_rest setup h world is r (none_there setup h world is r none);
     members = λ w k c.
-        members_by_stages setup h world is r w k c (none_there setup h world is r none w (owner_of setup.workers c))
+        members_by_stages setup h world is r w k c (none_there setup h world is r none w (owner_of setup.workers c)) (none_there setup h world is r none (owner_of setup.workers c) w)
         ∙ only_standing c (stage_of k (own w h)) (nobody_starts_at_rest setup h world is r (none_there setup h world is r none) w k);
   }
 

@@ -10,22 +10,23 @@ use Rattle.nc_journal.specs.declared.event.Event.TheVariants.{Asked, Answered}
 use Rattle.nc_journal.specs.declared.word.Act.TheVariants as acts
 use Rattle.nc_journal.specs.declared.alert.AlertLine.{AlertLine}
 use Rattle.nc_owner_laws.specs.Kinds.{IsOfOwner}
+use Rattle.nc_owner_laws.proofs.Sweeping.{reaps_are}
 use Rattle.nc_worker_state.specs.Setup.{Setup}
-use Rattle.nc_worker_state.specs.Incoming.{Incoming, TakesPacket, ClockReads, Reaps, Posts, Subscribes, Informs}
+use Rattle.nc_worker_state.specs.Incoming.{Incoming, TakesPacket, ClockReads, Reaps, Posts, Subscribes, Removes, Informs}
 use Rattle.nc_worker_state.specs.Deed.{next_after}
 use Rattle.nc_worker_state.specs.Desk.{Desk}
-use Rattle.nc_worker_state.specs.Owned.{line_polls}
+use Rattle.nc_worker_state.specs.Owned.{line_polls, owned_by}
 use Rattle.nc_worker_state.specs.Worker.{holding}
 use Rattle.nc_world.specs.World.{World, seat, handled_events, sum_below}
 use Rattle.nc_world.specs.Reached.{IsSetup}
 use Rattle.nc_world_laws.specs.Good.{Good}
 use Rattle.nc_world_laws.specs.Kinds.{IsOfWorker}
 use Rattle.nc_world_laws.proofs.Local.{eq_of}
-use Rattle.nc_world_laws.proofs.Parts.{owns, serves, before, part, behind, of, well, part_all, behind_all}
+use Rattle.nc_world_laws.proofs.Parts.{owns, serves, before, part, behind, me, of, well, part_all, behind_all}
 use Rattle.nc_world_holds.specs.Balance.{one_if}
 use Rattle.nc_world_holds.proofs.Counting.{count, count_append}
 use Rattle.nc_world_requests.specs.Requests.{asks, asks_under, answers_under, asking, answering, DrawnAt}
-use Rattle.nc_world_requests.proofs.Weighing.{turned, made_for, out_for, made_append, weave_out, told_out, deeds_answer_none, AnswersSo, owner_answers}
+use Rattle.nc_world_requests.proofs.Weighing.{turned, made_for, part_for, made_append, part_out, told_out, deeds_answer_none, PartAnswers, sole_answers, reap_answers, owner_answers}
 use Rattle.nc_world_requests.proofs.Replying.{told_answers, gain, loss, aim, more, AwaitsIt, served_effect}
 
 -- ---- sums
@@ -127,6 +128,7 @@ module _ (setup : Setup) (is : IsSetup setup) (w : ℕ) (incoming : Incoming) (h
   opening_under x r Reaps = none_case (x == w)
   opening_under x r (Posts c body) = ask_case x (desk.requests == r)
   opening_under x r (Subscribes k list start) = none_case (x == w)
+  opening_under x r (Removes c) = ask_case x (desk.requests == r)
   opening_under x r (Informs c) = ask_case x (desk.requests == r)
 
   pub step_asks_under : (x r : ℕ) → count (asks_under x r) es ≡ cond (x == w) (gain w r setup incoming desk) 0
@@ -147,6 +149,7 @@ module _ (setup : Setup) (is : IsSetup setup) (w : ℕ) (incoming : Incoming) (h
   opening_asks x r Reaps = none_case (x == w)
   opening_asks x r (Posts c body) = one_case x
   opening_asks x r (Subscribes k list start) = none_case (x == w)
+  opening_asks x r (Removes c) = one_case x
   opening_asks x r (Informs c) = one_case x
 
   pub step_asks : (x r : ℕ) → count (asks x) es ≡ cond (x == w) (more w r setup incoming) 0
@@ -164,6 +167,7 @@ module _ (setup : Setup) (is : IsSetup setup) (w : ℕ) (incoming : Incoming) (h
   opening_answers x r Reaps = refl
   opening_answers x r (Posts c body) = refl
   opening_answers x r (Subscribes k list start) = refl
+  opening_answers x r (Removes c) = refl
   opening_answers x r (Informs c) = refl
 
   abbrev next : ℕ → ℕ
@@ -190,12 +194,12 @@ module _ (setup : Setup) (is : IsSetup setup) (w : ℕ) (incoming : Incoming) (h
 
   -- ---- what is made
 
-  made_three : (f : AlertLine → ℕ) (y : ℕ) → made_for f y es ≡ made_for f y (before setup w incoming world) + out_for f y (owns w incoming world).alerts + made_for f y (behind setup w incoming world)
+  made_three : (f : AlertLine → ℕ) (y : ℕ) → made_for f y es ≡ made_for f y (before setup w incoming world) + part_for f y (owns w incoming world) + made_for f y (behind setup w incoming world)
   made_three f y = omega (
     arith,
     made_append f y (before setup w incoming world ++ part w incoming world) (behind setup w incoming world),
     made_append f y (before setup w incoming world) (part w incoming world),
-    weave_out f y w w (world.workers w).next (owns w incoming world).events (owns w incoming world).alerts (of setup is w incoming h world g),
+    part_out f y w w (world.workers w).next (owns w incoming world) (of setup is w incoming h world g),
   )
 
   opening_made : (f : AlertLine → ℕ) (y : ℕ) (i : Incoming) → made_for f y (before setup w i world) ≡ 0
@@ -204,6 +208,7 @@ module _ (setup : Setup) (is : IsSetup setup) (w : ℕ) (incoming : Incoming) (h
   opening_made f y Reaps = refl
   opening_made f y (Posts c body) = refl
   opening_made f y (Subscribes k list start) = refl
+  opening_made f y (Removes c) = refl
   opening_made f y (Informs c) = refl
 
   -- what came to be answered
@@ -211,20 +216,25 @@ module _ (setup : Setup) (is : IsSetup setup) (w : ℕ) (incoming : Incoming) (h
   came r y (TakesPacket from p) = cond (y == from) (asking r p.line) 0
   came r y i = 0
 
-  owner_made : (r y : ℕ) (i : Incoming) → AnswersSo r y (came r y i) (owns w i world).alerts
-  owner_made r y (TakesPacket from p) = owner_answers r y (line_polls p.line (holding w (seat w world))) from p.line (holding w (seat w world))
-  owner_made r y (ClockReads t) = record { answered = refl; unasked = refl }
-  owner_made r y Reaps = record { answered = refl; unasked = refl }
-  owner_made r y (Posts c body) = record { answered = refl; unasked = refl }
-  owner_made r y (Subscribes k list start) = record { answered = refl; unasked = refl }
-  owner_made r y (Informs c) = record { answered = refl; unasked = refl }
+  owner_made : (r y : ℕ) (i : Incoming) → PartAnswers r y (came r y i) (owns w i world)
+  owner_made r y (TakesPacket from p) =
+      let s = holding w (seat w world) in
+      sole_answers r y (cond (y == from) (asking r p.line) 0) (owned_by (line_polls p.line s) from p.line s) (owner_answers r y (line_polls p.line s) from p.line s)
+  owner_made r y (ClockReads t) = record { part_answered = refl; part_unasked = refl }
+  owner_made r y Reaps =
+      reap_answers r y setup.workers w (owns w Reaps world)
+      (reaps_are setup.workers w (world.rows w) (world.workers w).owner (me setup is w Reaps h world g) (g.owns w)).alerts refl
+  owner_made r y (Posts c body) = record { part_answered = refl; part_unasked = refl }
+  owner_made r y (Subscribes k list start) = record { part_answered = refl; part_unasked = refl }
+  owner_made r y (Removes c) = record { part_answered = refl; part_unasked = refl }
+  owner_made r y (Informs c) = record { part_answered = refl; part_unasked = refl }
 
   pub step_answering : (r y : ℕ) → made_for (answering r) y es ≡ came r y incoming
   step_answering r y = omega (
     arith,
     made_three (answering r) y,
     opening_made (answering r) y incoming,
-    (owner_made r y incoming).answered,
+    (owner_made r y incoming).part_answered,
     told_out (answering r) y setup.workers w next (serves setup w incoming world).deeds (well setup is w incoming h world g),
     deeds_answer_none r y setup.workers w (serves setup w incoming world).deeds (well setup is w incoming h world g),
   )
@@ -234,7 +244,7 @@ module _ (setup : Setup) (is : IsSetup setup) (w : ℕ) (incoming : Incoming) (h
     arith,
     made_three (asking r) y,
     opening_made (asking r) y incoming,
-    (owner_made r y incoming).unasked,
+    (owner_made r y incoming).part_unasked,
     told_out (asking r) y setup.workers w next (serves setup w incoming world).deeds (well setup is w incoming h world g),
     (served_effect w r setup incoming desk one).asks y,
   )
@@ -257,6 +267,8 @@ module _ (first x : ℕ) where
       drawn_case (v == x) (n == r) n r (Asks h) (times_so (asks_under x r) h) (λ i j. eq_of n r j) (λ i. a.1 ∙ ap (λ z. first + times_so (asks z) h) (eq_of v x i)) le (never_asked r h a.0)
   never_asked r (Asked v n None acts.Info list status rule ∷ h) a le =
       drawn_case (v == x) (n == r) n r (Asks h) (times_so (asks_under x r) h) (λ i j. eq_of n r j) (λ i. a.1 ∙ ap (λ z. first + times_so (asks z) h) (eq_of v x i)) le (never_asked r h a.0)
+  never_asked r (Asked v n None acts.Delete list status rule ∷ h) a le =
+      drawn_case (v == x) (n == r) n r (Asks h) (times_so (asks_under x r) h) (λ i j. eq_of n r j) (λ i. a.1 ∙ ap (λ z. first + times_so (asks z) h) (eq_of v x i)) le (never_asked r h a.0)
   never_asked r (e ∷ h) a le = never_asked r h a.0 le
 
   once_case : (a b : Bool) (n r t k : ℕ) → (a ≡ true → b ≡ true → n ≡ r) → (a ≡ true → n ≡ first + t) → k ≤ 1 → (first + t ≤ r → k ≡ 0) → cond (a && b) (k + 1) k ≤ 1
@@ -270,5 +282,7 @@ module _ (first x : ℕ) where
   once_asked r (Asked v n None acts.Publish list status rule ∷ h) a =
       once_case (v == x) (n == r) n r (Asks h) (times_so (asks_under x r) h) (λ i j. eq_of n r j) (λ i. a.1 ∙ ap (λ z. first + times_so (asks z) h) (eq_of v x i)) (once_asked r h a.0) (never_asked r h a.0)
   once_asked r (Asked v n None acts.Info list status rule ∷ h) a =
+      once_case (v == x) (n == r) n r (Asks h) (times_so (asks_under x r) h) (λ i j. eq_of n r j) (λ i. a.1 ∙ ap (λ z. first + times_so (asks z) h) (eq_of v x i)) (once_asked r h a.0) (never_asked r h a.0)
+  once_asked r (Asked v n None acts.Delete list status rule ∷ h) a =
       once_case (v == x) (n == r) n r (Asks h) (times_so (asks_under x r) h) (λ i j. eq_of n r j) (λ i. a.1 ∙ ap (λ z. first + times_so (asks z) h) (eq_of v x i)) (once_asked r h a.0) (never_asked r h a.0)
   once_asked r (e ∷ h) a = once_asked r h a.0

@@ -18,7 +18,7 @@ use Rattle.nc_spool.specs.declared.fact.Fact.TheVariants as facts
 use Rattle.nc_spool.specs.Calls.{arrive_facts, answer_facts, edge_facts, notice_facts, gone_facts}
 use Rattle.nc_history.specs.Packets.{Packet, kind_of, pending}
 use Rattle.nc_worker_state.specs.Setup.{Setup}
-use Rattle.nc_worker_state.specs.Incoming.{Incoming, TakesPacket, ClockReads, Reaps, Posts, Subscribes, Informs}
+use Rattle.nc_worker_state.specs.Incoming.{Incoming, TakesPacket, ClockReads, Reaps, Posts, Subscribes, Removes, Informs}
 use Rattle.nc_worker_state.specs.Deed.{Deed, Does, Makes, told, next_after}
 use Rattle.nc_worker_state.specs.Owned.{Holding, owned_by, line_polls}
 use Rattle.nc_worker_state.specs.Spooled.{Hold, facts_deeds, found_in, found_by, release, releases}
@@ -152,6 +152,7 @@ module _ (setup : Setup) (is : IsSetup setup) (w : ℕ) where
   input_answered Reaps h world g i a = plain_step Reaps h world g tt (input_unanswered w setup Reaps (world.workers w).desk tt) a
   input_answered (Posts c body) h world g i a = plain_step (Posts c body) h world g (tt, tt) (input_unanswered w setup (Posts c body) (world.workers w).desk tt) a
   input_answered (Subscribes k list start) h world g i a = plain_step (Subscribes k list start) h world g (tt, tt) (input_unanswered w setup (Subscribes k list start) (world.workers w).desk (facts_unanswered w causes.Answered (arrive_facts k list start true (world.workers w).desk.spools))) a
+  input_answered (Removes c) h world g i a = plain_step (Removes c) h world g (tt, tt) (input_unanswered w setup (Removes c) (world.workers w).desk tt) a
   input_answered (Informs c) h world g i a = plain_step (Informs c) h world g (tt, tt) (input_unanswered w setup (Informs c) (world.workers w).desk tt) a
 
   pub packet_answered : (v : ℕ) (p : Packet) (more : List Packet) (h : List Event) (world : World) → Good setup h world → pending v w h ≡ p ∷ more → Along AnsweredAt h → Along AnsweredAt (onto (handled_events setup w (TakesPacket v p) world) h)

@@ -18,7 +18,7 @@ use Rattle.nc_spool.specs.declared.fact.Fact.TheVariants as facts
 use Rattle.nc_spool.specs.Calls.{arrive_facts, answer_facts, edge_facts, notice_facts, gone_facts}
 use Rattle.nc_spool_state.specs.Kept.{is_idle}
 use Rattle.nc_worker_state.specs.Setup.{Setup}
-use Rattle.nc_worker_state.specs.Incoming.{Incoming, TakesPacket, ClockReads, Reaps, Posts, Subscribes, Informs}
+use Rattle.nc_worker_state.specs.Incoming.{Incoming, TakesPacket, ClockReads, Reaps, Posts, Subscribes, Removes, Informs}
 use Rattle.nc_worker_state.specs.Deed.{Deed, Does, Makes, told}
 use Rattle.nc_worker_state.specs.Spooled.{Hold, facts_deeds, ask_line, found_in, found_by, release, releases}
 use Rattle.nc_worker_state.specs.Desk.{Desk, Served, is_waiting, without, replied, handled, begun, served}
@@ -200,6 +200,7 @@ module _ (me r : ℕ) where
     -- what an input adds, takes away, and whom it asks
     abbrev pub gain : Incoming → Desk → ℕ
     gain (Posts c body) d = one_if (d.requests == r)
+    gain (Removes c) d = one_if (d.requests == r)
     gain (Informs c) d = one_if (d.requests == r)
     gain incoming d = 0
 
@@ -209,11 +210,13 @@ module _ (me r : ℕ) where
 
     abbrev pub aim : Incoming → ℕ
     aim (Posts c body) = owner_of setup.workers c
+    aim (Removes c) = owner_of setup.workers c
     aim (Informs c) = owner_of setup.workers c
     aim incoming = 0
 
     abbrev pub more : Incoming → ℕ
     more (Posts c body) = 1
+    more (Removes c) = 1
     more (Informs c) = 1
     more incoming = 0
 
@@ -240,6 +243,12 @@ module _ (me r : ℕ) where
       draws = refl;
     }
     begun_effect (Subscribes k list start) d one = let fs = arrive_facts k list start true d.spools in no_effect d _ refl refl (facts_none causes.Answered fs) (λ x. facts_ask x causes.Answered fs)
+    begun_effect (Removes c) d one = record {
+      waits = waits_one (d.requests == r) (occurs r d.waiting);
+      answers = refl;
+      asks = λ x. last_one (x == owner_of setup.workers c) (one_if (d.requests == r));
+      draws = refl;
+    }
     begun_effect (Informs c) d one = record {
       waits = waits_one (d.requests == r) (occurs r d.waiting);
       answers = refl;

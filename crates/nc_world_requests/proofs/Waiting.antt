@@ -10,7 +10,7 @@ use Rattle.nc_journal.specs.declared.alert.AlertLine.TheVariants as lines
 use Rattle.nc_owner_laws.specs.Kinds.{IsOfOwner}
 use Rattle.nc_history.specs.Packets.{Packet, pending}
 use Rattle.nc_worker_state.specs.Setup.{Setup}
-use Rattle.nc_worker_state.specs.Incoming.{Incoming, TakesPacket, ClockReads, Reaps, Posts, Subscribes, Informs}
+use Rattle.nc_worker_state.specs.Incoming.{Incoming, TakesPacket, ClockReads, Reaps, Posts, Subscribes, Removes, Informs}
 use Rattle.nc_worker_state.specs.Desk.{Desk}
 use Rattle.nc_worker_state.specs.Worker.{WorkerAt, with_at, sent_to, dealt_worker}
 use Rattle.nc_world.specs.World.{World, handled_events, pending_in, sum_below}
@@ -112,6 +112,7 @@ module _ (setup : Setup) (is : IsSetup setup) (w : ℕ) (incoming : Incoming) (h
   opening_drawn Reaps = k.drawn
   opening_drawn (Posts c body) = (k.drawn, k.next w)
   opening_drawn (Subscribes m list start) = (k.drawn, tt)
+  opening_drawn (Removes c) = (k.drawn, k.next w)
   opening_drawn (Informs c) = (k.drawn, k.next w)
 
   step_drawn : Along (DrawnAt setup.first) (onto es h)
@@ -127,6 +128,7 @@ module _ (setup : Setup) (is : IsSetup setup) (w : ℕ) (incoming : Incoming) (h
   opening_rested Reaps = k.rested
   opening_rested (Posts c body) = (k.rested, tt)
   opening_rested (Subscribes m list start) = (k.rested, tt)
+  opening_rested (Removes c) = (k.rested, tt)
   opening_rested (Informs c) = (k.rested, tt)
 
   step_rested : Along RestedAt (onto es h)
@@ -191,6 +193,7 @@ module _ (setup : Setup) (is : IsSetup setup) (w : ℕ) (incoming : Incoming) (h
   input_awaits Reaps k r = tt
   input_awaits (Posts c body) k r = tt
   input_awaits (Subscribes m list start) k r = tt
+  input_awaits (Removes c) k r = tt
   input_awaits (Informs c) k r = tt
 
   input_came : (i : Incoming) → IsInput w h i → (r y : ℕ) → came setup is w i h world g r y i ≡ 0
@@ -199,6 +202,7 @@ module _ (setup : Setup) (is : IsSetup setup) (w : ℕ) (incoming : Incoming) (h
   input_came Reaps k r y = refl
   input_came (Posts c body) k r y = refl
   input_came (Subscribes m list start) k r y = refl
+  input_came (Removes c) k r y = refl
   input_came (Informs c) k r y = refl
 
   input_loss : (i : Incoming) → IsInput w h i → (r : ℕ) → loss w r setup i ≡ 0
@@ -207,6 +211,7 @@ module _ (setup : Setup) (is : IsSetup setup) (w : ℕ) (incoming : Incoming) (h
   input_loss Reaps k r = refl
   input_loss (Posts c body) k r = refl
   input_loss (Subscribes m list start) k r = refl
+  input_loss (Removes c) k r = refl
   input_loss (Informs c) k r = refl
 
   aim_there : (i : Incoming) (r : ℕ) → aim w r setup i < setup.workers
@@ -215,6 +220,7 @@ module _ (setup : Setup) (is : IsSetup setup) (w : ℕ) (incoming : Incoming) (h
   aim_there Reaps r = is.0
   aim_there (Posts c body) r = owner_there setup.workers c is.0
   aim_there (Subscribes m list start) r = is.0
+  aim_there (Removes c) r = owner_there setup.workers c is.0
   aim_there (Informs c) r = owner_there setup.workers c is.0
 
   -- what a queue has of a kind then

@@ -17,14 +17,21 @@ use Rattle.nc_owner.specs.State.{OwnerAt, Bench, exists}
 use Rattle.nc_owner.specs.Publish.{Polls, Outcome, late, full, stored, notices, answer, asked, roomy, stamp, lowest_slot, stored_status, info_of, store_bench, post_alerts, publish_outcome, publish_cleared}
 use Rattle.nc_owner.specs.Look.{found_on, found_line, look_ready}
 use Rattle.nc_owner.specs.Edge.{edge_line}
+use Rattle.nc_owner.specs.Remove.{alerts_of_removal, delete_answer, delete_line}
 use Rattle.nc_owner.specs.OtherSteps.{touched_of, touch_after}
+use Rattle.nc_reaper.specs.Reap.{Step}
 use Rattle.nc_owner_laws.specs.Kinds.{IsOfOwner}
-use Rattle.nc_owner_laws.specs.Weave.{weave, makes, numbered}
+use Rattle.nc_owner_laws.specs.Reaping.{steps_woven, next_behind}
+use Rattle.nc_owner_laws.specs.Sweeping.{AllEvents, AllAlerts, IsLoss}
+use Rattle.nc_owner_laws.specs.Weave.{weave, makes, numbered, numbered_by}
+use Rattle.nc_owner_laws.proofs.Sweeping.{told_so}
 use Rattle.nc_history.specs.Packets.{Packet, packet}
 use Rattle.nc_worker_state.specs.Deed.{Deed, Does, Makes, told}
-use Rattle.nc_worker_state.specs.Owned.{Holding, order_of, fenced, owned_by}
-use Rattle.nc_worker_state.specs.Worker.{sent_to}
+use Rattle.nc_worker_state.specs.Owned.{Holding, Owned, OwnersPart, at_once, order_of, fenced, owned_by}
+use Rattle.nc_worker_state.specs.Worker.{sent_to, part_woven}
 use Rattle.nc_world_laws.specs.Kinds.{AsksOwner, AreDeeds}
+use Rattle.nc_world_laws.proofs.Local.{all_of}
+use Rattle.nc_world_laws.proofs.Telling.{PartEvents}
 use Rattle.nc_world_holds.specs.Balance.{one_if}
 use Rattle.nc_world_requests.specs.Requests.{asking, answering, among}
 
@@ -91,6 +98,31 @@ module _ (f : AlertLine → ℕ) where
     weave_out w v next (Made u to n a ∷ es) alerts of = absurd of.0
     weave_out w v next (e ∷ es) alerts of = weave_out w v next es alerts of.1
 
+    -- what the alerts of some steps are, and those of an owner's part
+    abbrev pub steps_for : List Step → ℕ
+    steps_for [] = 0
+    steps_for (s ∷ steps) = out_for s.alerts + steps_for steps
+
+    abbrev pub part_for : OwnersPart → ℕ
+    part_for p = steps_for p.sweeps + out_for p.last.alerts
+
+    steps_out : (w v : ℕ) (next : ℕ → ℕ) (steps : List Step) → AllEvents (IsOfOwner v) steps → made_for (steps_woven w next steps) ≡ steps_for steps
+    steps_out w v next [] of = refl
+    steps_out w v next (s ∷ steps) of = omega (
+      arith,
+      made_append (weave w next s.events s.alerts) (steps_woven w (numbered_by next s.alerts) steps),
+      weave_out w v next s.events s.alerts of.0,
+      steps_out w v (numbered_by next s.alerts) steps of.1,
+    )
+
+    pub part_out : (w v : ℕ) (next : ℕ → ℕ) (p : OwnersPart) → PartEvents (IsOfOwner v) p → made_for (part_woven w next p) ≡ part_for p
+    part_out w v next p of = omega (
+      arith,
+      made_append (steps_woven w next p.sweeps) (weave w (next_behind next p.sweeps) p.last.events p.last.alerts),
+      steps_out w v next p.sweeps of.0,
+      weave_out w v (next_behind next p.sweeps) p.last.events p.last.alerts of.1,
+    )
+
     pub told_out : (workers w : ℕ) (next : ℕ → ℕ) (deeds : List Deed) → AreDeeds workers w deeds → made_for (told w next deeds) ≡ deeds_for deeds
     told_out workers w next [] d = refl
     told_out workers w next (Does (Made v to n a) ∷ deeds) d = absurd d.0
@@ -127,6 +159,14 @@ module _ (r x : ℕ) where
   pub record AnswersSo (n : ℕ) (alerts : List OutLine) : Type 0 where
     pub answered : Answers alerts ≡ n
     pub unasked : Asks alerts ≡ 0
+
+  -- so in an owner's part
+  pub record PartAnswers (n : ℕ) (p : OwnersPart) : Type 0 where
+    pub part_answered : part_for (answering r) x p ≡ n
+    pub part_unasked : part_for (asking r) x p ≡ 0
+
+  pub sole_answers : (n : ℕ) (o : Owned) → AnswersSo n o.alerts → PartAnswers n (at_once o)
+  sole_answers n o k = record { part_answered = omega (arith, k.answered); part_unasked = omega (arith, k.unasked) }
 
   last_one : (b : Bool) (n : ℕ) → cond b n 0 + 0 ≡ cond b n 0
   last_one true n = omega arith
@@ -179,6 +219,37 @@ module _ (r x : ℕ) where
   edge_none : (from number : ℕ) (c : List ℕ) (s : OwnerAt) → AnswersSo 0 (edge_line from number c s ∷ [])
   edge_none from number c s = record { answered = last_none (x == from); unasked = last_none (x == from) }
 
+  -- alerts that answer and ask nothing
+  abbrev IsSilent : OutLine → Type 0
+  IsSilent a = (answering r a.line ≡ 0) × (asking r a.line ≡ 0)
+
+  silent_loss : (workers me to : ℕ) (line : AlertLine) → IsLoss workers me line → IsSilent (record { to = to; line = line })
+  silent_loss workers me to (lines.Gone c subs) loss = (refl, refl)
+  silent_loss workers me to line loss = absurd loss
+
+  silent_none : (alerts : List OutLine) → AllByRecursion IsSilent alerts → AnswersSo 0 alerts
+  silent_none [] silent = record { answered = refl; unasked = refl }
+  silent_none (a ∷ alerts) silent =
+      let k = silent_none alerts silent.1 in
+      record { answered = none_if (x == a.to) _ _ silent.0.0 k.answered; unasked = none_if (x == a.to) _ _ silent.0.1 k.unasked }
+
+  -- so the sweeps of a reap are
+  silent_steps : (workers me : ℕ) (steps : List Step) → AllAlerts (λ a. IsLoss workers me a.line) steps → (steps_for (answering r) x steps ≡ 0) × (steps_for (asking r) x steps ≡ 0)
+  silent_steps workers me [] loss = (refl, refl)
+  silent_steps workers me (s ∷ steps) loss =
+      let k = silent_none s.alerts (all_of (λ a. IsLoss workers me a.line) IsSilent (λ a is. silent_loss workers me a.to a.line is) s.alerts loss.0) in
+      let more = silent_steps workers me steps loss.1 in
+      (omega (arith, k.answered, more.0), omega (arith, k.unasked, more.1))
+
+  pub reap_answers : (workers me : ℕ) (p : OwnersPart) → AllAlerts (λ a. IsLoss workers me a.line) p.sweeps → p.last.alerts ≡ [] → PartAnswers 0 p
+  reap_answers workers me p loss none =
+      let k = silent_steps workers me p.sweeps loss in
+      record { part_answered = omega (arith, k.0, ap Answers none); part_unasked = omega (arith, k.1, ap Asks none) }
+
+  delete_answers : (b : Bool) (from n : ℕ) (info : Option Info) → AnswersSo (cond (x == from) (one_if (n == r)) 0) (cond b (delete_answer from n 200 info) (delete_answer from n 404 None) ∷ [])
+  delete_answers true from n info = one_answer from n (delete_answer from n 200 info) refl refl refl
+  delete_answers false from n info = one_answer from n (delete_answer from n 404 None) refl refl refl
+
   info_answers : (b : Bool) (n : ℕ) (info : Option Info) → (answering r (cond b (lines.InfoAnswer n 200 info) (lines.InfoAnswer n 404 None)) ≡ one_if (n == r)) × (asking r (cond b (lines.InfoAnswer n 200 info) (lines.InfoAnswer n 404 None)) ≡ 0)
   info_answers true n info = (refl, refl)
   info_answers false n info = (refl, refl)
@@ -201,7 +272,16 @@ module _ (r x : ℕ) where
   owner_answers polls from (lines.Notice c id g slot) s = none_made (x == from) [] nothing
   owner_answers polls from (lines.Edge number k c fence) s = none_made (x == from) _ (edge_none from number c (touch_after c s.row (fenced fence s).owner))
   owner_answers polls from (lines.EdgeAnswer number q floor last) s = none_made (x == from) [] nothing
-  owner_answers polls from (lines.Delete n c) s = none_made (x == from) [] nothing
+  owner_answers polls from (lines.Delete n c) s =
+      let t = touch_after c s.row s.owner in
+      let told = alerts_of_removal (exists c s.owner) c t in
+      let last = delete_line from n c s.row s.owner in
+      let k = silent_none told (told_so IsSilent c (λ members to. (refl, refl)) (exists c s.owner) t) in
+      let one = delete_answers (exists c s.owner) from n (Some (info_of (touched_of c s.row s.owner).channel)) in
+      record {
+        answered = omega (arith, out_append (answering r) x told (last ∷ []), k.answered, one.answered);
+        unasked = omega (arith, out_append (asking r) x told (last ∷ []), k.unasked, one.unasked);
+      }
   owner_answers polls from (lines.DelAnswer n status info) s = none_made (x == from) [] nothing
   owner_answers polls from (lines.Gone c subs) s = none_made (x == from) [] nothing
   owner_answers polls from (lines.InfoAnswer n status info) s = none_made (x == from) [] nothing

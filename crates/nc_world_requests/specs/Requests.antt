@@ -11,15 +11,17 @@ use Rattle.nc_history.specs.Packets.{Packet, pending}
 use Rattle.nc_world.specs.World.{sum_below}
 use Rattle.nc_world_holds.specs.Balance.{one_if}
 
--- a worker asks an owner for itself: it publishes, or asks for information; and so under a number
+-- a worker asks an owner for itself: it publishes, deletes, or asks for information; and so under a number
 abbrev pub asks : ℕ → Event → Bool
 asks w (Asked v n None acts.Publish list status rule) = v == w
 asks w (Asked v n None acts.Info list status rule) = v == w
+asks w (Asked v n None acts.Delete list status rule) = v == w
 asks w e = false
 
 abbrev pub asks_under : ℕ → ℕ → Event → Bool
 asks_under w r (Asked v n None acts.Publish list status rule) = (v == w) && (n == r)
 asks_under w r (Asked v n None acts.Info list status rule) = (v == w) && (n == r)
+asks_under w r (Asked v n None acts.Delete list status rule) = (v == w) && (n == r)
 asks_under w r e = false
 
 -- a worker answers what was asked under a number
@@ -31,6 +33,7 @@ answers_under w r e = false
 abbrev pub asking : ℕ → AlertLine → ℕ
 asking r (lines.Publish n c len timeout ct body) = one_if (n == r)
 asking r (lines.Info n c) = one_if (n == r)
+asking r (lines.Delete n c) = one_if (n == r)
 asking r line = 0
 
 abbrev pub answering : ℕ → AlertLine → ℕ
@@ -67,6 +70,7 @@ occurs r (x ∷ xs) = if x == r then occurs r xs + 1 else occurs r xs
 abbrev pub DrawnAt : ℕ → List Event → Event → Type 0
 DrawnAt first h (Asked w r None acts.Publish list status rule) = r ≡ first + times_so (asks w) h
 DrawnAt first h (Asked w r None acts.Info list status rule) = r ≡ first + times_so (asks w) h
+DrawnAt first h (Asked w r None acts.Delete list status rule) = r ≡ first + times_so (asks w) h
 DrawnAt first h _ = Unit {0}
 
 -- an alert answers a number with a status and information; the first of some packets does

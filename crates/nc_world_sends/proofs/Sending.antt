@@ -12,22 +12,22 @@ use Rattle.nc_journal.specs.declared.event.Event.TheVariants.{Took, Subscribed, 
 use Rattle.nc_journal.specs.declared.event.Event.TheVariants as events
 use Rattle.nc_journal.specs.declared.word.AlertKind.TheVariants as kinds
 use Rattle.nc_journal.specs.declared.word.ModeLine.TheVariants.{Direct}
-use Rattle.nc_journal.specs.declared.word.EndedCause.TheVariants.{Answered}
+use Rattle.nc_journal.specs.declared.word.EndedCause.TheVariants.{Answered, Deleted}
 use Rattle.nc_journal.specs.declared.alert.AlertLine.{AlertLine}
 use Rattle.nc_journal.specs.declared.alert.AlertLine.TheVariants as lines
 use Rattle.nc_owner_laws.specs.Kinds.{IsOfOwner}
 use Rattle.nc_spool_state.specs.Spool.{SpoolAt}
 use Rattle.nc_spool_state.specs.Kept.{is_idle}
 use Rattle.nc_spool.specs.declared.spools.Found.{Found}
-use Rattle.nc_spool.specs.Calls.{SpoolsAt, board_of, news_of, answer_facts, notice_facts}
+use Rattle.nc_spool.specs.Calls.{SpoolsAt, board_of, news_of, answer_facts, notice_facts, gone_facts}
 use Rattle.nc_spool_laws.specs.Numbers.{total}
 use Rattle.nc_spool_laws.specs.Tally.{readers_of, StandOnce}
 use Rattle.nc_history.specs.Packets.{packet, IsNext}
 use Rattle.nc_worker_state.specs.Setup.{Setup}
-use Rattle.nc_worker_state.specs.Incoming.{Incoming, TakesPacket, ClockReads, Reaps, Posts, Subscribes, Informs}
+use Rattle.nc_worker_state.specs.Incoming.{Incoming, TakesPacket, ClockReads, Reaps, Posts, Subscribes, Removes, Informs}
 use Rattle.nc_worker_state.specs.Deed.{Does, told, next_after}
 use Rattle.nc_worker_state.specs.Desk.{Served, unserved, is_waiting, without, replied, handled as answered, begun}
-use Rattle.nc_worker_state.specs.Spooled.{Hold, found_by, found_in, answers, edges, notices}
+use Rattle.nc_worker_state.specs.Spooled.{Hold, found_by, found_in, answers, edges, notices, loses}
 use Rattle.nc_world.specs.World.{World, handled_events}
 use Rattle.nc_world.specs.Reached.{IsSetup, IsInput, Reached}
 use Rattle.nc_world_laws.specs.Good.{Good, IsLineTo}
@@ -56,6 +56,7 @@ use Rattle.nc_world_calls.proofs.Answering.{answer_sends_well}
 use Rattle.nc_world_calls.proofs.NoticeStep.{notice_sends_well}
 use Rattle.nc_world_calls.proofs.Arriving.{arrival_sends_nothing}
 use Rattle.nc_world_calls.proofs.Edging.{edge_sends_nothing}
+use Rattle.nc_world_calls.proofs.Losing.{loss_sends_nothing}
 use Rattle.nc_world_asks.proofs.Reaching.{ring_next, reached_ask_well}
 use Rattle.nc_world_places.specs.Notices.{IsNoticeOf}
 use Rattle.nc_world_places.proofs.Framing.{then_releases}
@@ -64,7 +65,7 @@ use Rattle.nc_world_places.proofs.Reaching.{made_notices, reached_spools_know}
 use Rattle.nc_world_places.proofs.Telling.{reached_owners_tell}
 use Rattle.nc_world_begins.proofs.Laws.{answers_start}
 use Rattle.nc_world_sends.specs.Sends.{SendsSo, HistoriesSendSo, HistoriesCarry, HistoriesPromise, HistoriesSendLawfully}
-use Rattle.nc_world_sends.proofs.Startless.{answered_startless, noticed_startless, startless_appends}
+use Rattle.nc_world_sends.proofs.Startless.{answered_startless, noticed_startless, lost_startless, startless_appends}
 use Rattle.nc_world_sends.proofs.Starting.{arrival_started}
 
 -- ---- events that send and start nobody
@@ -110,7 +111,7 @@ shelf_once (s ∷ shelf) few = (once_in s.readers (λ k. let f = few k in omega 
 
 -- what comes to a worker is as it counts on
 abbrev Suits : Setup → ℕ → List Event → Incoming → Type 0
-Suits setup w h (TakesPacket from p) = IsNext from w p.line h × IsLineTo setup.workers w p.line × IsWholeLine p.line × IsNoticeOf setup.workers from p.line
+Suits setup w h (TakesPacket from p) = IsNext from w p.line h × IsLineTo setup.workers from w p.line × IsWholeLine p.line × IsNoticeOf setup.workers from p.line
 Suits setup w h incoming = Unit {0}
 
 input_suits : (setup : Setup) (w : ℕ) (h : List Event) (incoming : Incoming) → IsInput w h incoming → Suits setup w h incoming
@@ -119,6 +120,7 @@ input_suits setup w h (ClockReads t) i = tt
 input_suits setup w h Reaps i = tt
 input_suits setup w h (Posts c body) i = tt
 input_suits setup w h (Subscribes k list start) i = tt
+input_suits setup w h (Removes c) i = tt
 input_suits setup w h (Informs c) i = tt
 
 module _ (setup : Setup) (is : IsSetup setup) (w : ℕ) (h : List Event) (world : World) (r : Reached setup h world) (g : Good setup h world) (k : SendsSo setup.workers h) where
@@ -185,6 +187,16 @@ module _ (setup : Setup) (is : IsSetup setup) (w : ℕ) (h : List Event) (world 
     started = answers_start setup h world is r w from n number q floor last kinds.EdgeAnswer next first k.started;
   }
 
+  -- a channel is gone
+  gone_line : (next : ℕ → ℕ) (from n : ℕ) (c subs : List ℕ) → owner_of setup.workers c ≡ from
+      → SendsSo setup.workers (onto (told w next (loses w c subs (world.workers w).desk.spools).deeds) (Took w from n kinds.Gone ∷ h))
+  gone_line next from n c subs own =
+      subst (λ (v : ℕ). SendsSo setup.workers (onto (told w next (loses w c subs (world.workers w).desk.spools).deeds) (Took w v n kinds.Gone ∷ h))) own (record {
+        sent = loss_sends_nothing setup.workers w n c subs kinds.Gone next h (world.workers w).desk.spools k.sent;
+        started = subst (Along (StartedThen setup.workers)) (written_is w Deleted next (gone_facts c subs (world.workers w).desk.spools) (Took w (owner_of setup.workers c) n kinds.Gone ∷ h))
+            (startless_appends setup.workers w Deleted next (Took w (owner_of setup.workers c) n kinds.Gone ∷ h) [] (gone_facts c subs (world.workers w).desk.spools) (lost_startless c subs (board_of (world.workers w).desk.spools)) (k.started, tt));
+      })
+
   -- ---- any other step
 
   part_plain : (incoming : Incoming) → AllByRecursion IsPlain (part w incoming world)
@@ -199,6 +211,7 @@ module _ (setup : Setup) (is : IsSetup setup) (w : ℕ) (h : List Event) (world 
   opened_so Reaps = k
   opened_so (Posts c body) = plain_onto setup.workers (_ ∷ []) h (tt, tt) k
   opened_so (Subscribes n list start) = plain_onto setup.workers (_ ∷ []) h (tt, tt) k
+  opened_so (Removes c) = plain_onto setup.workers (_ ∷ []) h (tt, tt) k
   opened_so (Informs c) = plain_onto setup.workers (_ ∷ []) h (tt, tt) k
 
   owned_so : (incoming : Incoming) → SendsSo setup.workers (owned incoming)
@@ -216,12 +229,12 @@ module _ (setup : Setup) (is : IsSetup setup) (w : ℕ) (h : List Event) (world 
       plain_stage w n (part w (Subscribes n list start) world) (e ∷ h) (part_all setup is w (Subscribes n list start) h world g IsStageless (stageless_owner w) (λ to n a. tt))
       ∙ ap (stage_of n) (own_one w e h (eqb_self w)) ∙ ap (λ (b : Bool). cond b (Starting list true start) (stage_of n (own w h))) (eqb_self n)
 
-  packet_so : (next : ℕ → ℕ) (from n : ℕ) (line : AlertLine) → IsNext from w line h → IsLineTo setup.workers w line → IsWholeLine line → IsNoticeOf setup.workers from line
+  packet_so : (next : ℕ → ℕ) (from n : ℕ) (line : AlertLine) → IsNext from w line h → IsLineTo setup.workers from w line → IsWholeLine line → IsNoticeOf setup.workers from line
       → SendsSo setup.workers (onto (told w next (answered w from line (world.workers w).desk).deeds) (owned (TakesPacket from (packet n line))))
   packet_so next from n (lines.LookAnswer number q floor past gr slot) first right whole noticed = answer_line next from n number q floor past gr slot whole first
   packet_so next from n (lines.Notice c id gr slot) first right whole noticed = notice_line next from n c id gr slot noticed first
   packet_so next from n (lines.EdgeAnswer number q floor last) first right whole noticed = edge_line next from n number q floor last first
-  packet_so next from n (lines.Gone c subs) first right whole noticed = absurd right
+  packet_so next from n (lines.Gone c subs) first right whole noticed = gone_line next from n c subs right
   packet_so next from n (lines.PubAnswer m status info usage) first right whole noticed = reply_so next _ m status info (owned_so (TakesPacket from (packet n (lines.PubAnswer m status info usage))))
   packet_so next from n (lines.InfoAnswer m status info) first right whole noticed = reply_so next _ m status info (owned_so (TakesPacket from (packet n (lines.InfoAnswer m status info))))
   packet_so next from n (lines.DelAnswer m status info) first right whole noticed = reply_so next _ m status info (owned_so (TakesPacket from (packet n (lines.DelAnswer m status info))))
@@ -238,6 +251,7 @@ module _ (setup : Setup) (is : IsSetup setup) (w : ℕ) (h : List Event) (world 
   begun_so next (ClockReads t) f = owned_so (ClockReads t)
   begun_so next Reaps f = owned_so Reaps
   begun_so next (Posts c body) f = plain_onto setup.workers (_ ∷ []) (owned (Posts c body)) (tt, tt) (owned_so (Posts c body))
+  begun_so next (Removes c) f = plain_onto setup.workers (_ ∷ []) (owned (Removes c)) (tt, tt) (owned_so (Removes c))
   begun_so next (Informs c) f = plain_onto setup.workers (_ ∷ []) (owned (Informs c)) (tt, tt) (owned_so (Informs c))
   begun_so next (Subscribes n list start) f =
       let o = owned_so (Subscribes n list start) in

@@ -1,5 +1,5 @@
--- What starts nobody: the answer to a look, and a notice.
-use Rattle.std.proofs.Common.{ℕ, List, [], ◌∷◌, Option, Some, None, sym, subst, find}
+-- What starts nobody: the answer to a look, a notice, and that a channel is gone.
+use Rattle.std.proofs.Common.{ℕ, Bool, true, List, [], ◌∷◌, Option, Some, None, sym, subst, find}
 use Rattle.std.specs.Prelude.{fold}
 use Rattle.std.specs.List.{AllByRecursion}
 use Rattle.nc_types.specs.Id.{is_past}
@@ -23,12 +23,14 @@ use Rattle.nc_spool.specs.declared.board.Board.{Board}
 use Rattle.nc_spool.specs.declared.decide.Delivery.{Delivery}
 use Rattle.nc_spool.specs.declared.fact.Fact.{Fact}
 use Rattle.nc_spool.specs.declared.fact.Fact.TheVariants as facts
-use Rattle.nc_spool.specs.Board.{told as tells}
+use Rattle.nc_spool.specs.Board.{told as tells, ended}
 use Rattle.nc_spool.specs.Decide.{delivery, sending, sent_one, decided, decided_by}
+use Rattle.nc_spool.specs.Depart.{other_names, names_with, left, member_gone, member_gone_by, gone}
 use Rattle.nc_spool.specs.Hear.{heeded, answered, answered_by, answered_at, noticed, noticed_at, noticed_by, noticed_place}
 use Rattle.nc_starts.specs.Starts.{StartedThen}
 use Rattle.nc_world_told.specs.Written.{fact_event, fact_next, written, next_written}
-use Rattle.nc_world_told.proofs.Sends.{Appends, same_facts, one_fact, then_facts, IsOut, IsAfter, weaker, moved_after, fences_outs}
+use Rattle.nc_world_told.proofs.Sends.{Appends, same_facts, one_fact, then_facts, IsOut, IsAfter, weaker, moved_after, parted_outs, fences_outs}
+use Rattle.nc_world_told.proofs.Leaving.{left_facts, emptied_outs}
 use Rattle.nc_world_told.proofs.Written.{written_append}
 
 abbrev pub IsStartless : Fact → Type 0
@@ -105,6 +107,27 @@ noticed_keys c news (key ∷ keys) b = then_facts IsStartless b.facts (noticed_a
 
 pub noticed_startless : (c : List ℕ) (news : News) (b : Board) → Appends IsStartless b.facts (noticed c news b).facts
 noticed_startless c news b = noticed_keys c news (keys_with c b.shelf) b
+
+ended_startless : (j : ℕ) (deleted : Bool) (names : List (List ℕ)) (b : Board) → Appends IsStartless b.facts (ended j deleted names b).facts
+ended_startless j deleted names b =
+    let first = tells (facts.Ended j deleted) b in
+    then_facts IsStartless b.facts first.facts (ended j deleted names b).facts (one_fact IsStartless b.facts (facts.Ended j deleted) tt) (outs_startless first.facts _ (parted_outs j names first))
+
+gone_startless : (c : List ℕ) (j : ℕ) (b : Board) → Appends IsStartless b.facts (member_gone c b j).facts
+gone_startless c j b = by (names_with j b)
+  where
+    by : (o : Option (List (List ℕ))) → Appends IsStartless b.facts (member_gone_by o c j (left j b)).facts
+    by None = subst (λ (l : List Fact). Appends IsStartless b.facts l) (sym (left_facts j b)) (same_facts IsStartless b.facts)
+    by (Some names) = subst (λ (l : List Fact). Appends IsStartless l (ended j true (other_names c names) (left j b)).facts) (left_facts j b) (ended_startless j true (other_names c names) (left j b))
+
+members_startless : (c members : List ℕ) (b : Board) → Appends IsStartless b.facts (fold (member_gone c) b members).facts
+members_startless c [] b = same_facts IsStartless b.facts
+members_startless c (j ∷ members) b = then_facts IsStartless b.facts (member_gone c b j).facts _ (gone_startless c j b) (members_startless c members (member_gone c b j))
+
+pub lost_startless : (c members : List ℕ) (b : Board) → Appends IsStartless b.facts (gone c members b).facts
+lost_startless c members b =
+    let over = fold (member_gone c) b members in
+    then_facts IsStartless b.facts over.facts (gone c members b).facts (members_startless c members b) (outs_startless over.facts _ (emptied_outs c over))
 
 -- ---- written
 

@@ -214,7 +214,7 @@ left_among : (cause : LeftCause) (w : ℕ) (c : List ℕ) (id : Id) (slot : ℕ)
 left_among Expired w c id slot newer older x = any_message _ (buffer c older) id slot x
 left_among Length w c id slot newer older x = first_among (buffer c older) id slot x.0
 left_among Spent w c id slot newer older x = any_message _ (buffer c older) id slot x
-left_among Deleted w c id slot newer older x = absurd x
+left_among Deleted w c id slot newer older x = first_among (buffer c older) id slot x.0
 
 module _ (workers slots v : ℕ) (whole : List Event) (rule : AtEachCut (LeftAt workers) whole) where
   further : (newer : List Event) (e : Event) (h : List Event) → whole ≡ newer ++ e ∷ h → whole ≡ (newer ++ e ∷ []) ++ h

@@ -33,7 +33,7 @@ use Rattle.nc_spool_brought.specs.Came.{IsAsked, PlaceCame, SpoolCame, FactCame,
 use Rattle.nc_spool_brought.proofs.Coming.{came-kept}
 use Rattle.nc_history.specs.Packets.{Packet, kind_of, lines_of, pending}
 use Rattle.nc_worker_state.specs.Setup.{Setup}
-use Rattle.nc_worker_state.specs.Incoming.{Incoming, TakesPacket, ClockReads, Reaps, Posts, Subscribes, Informs}
+use Rattle.nc_worker_state.specs.Incoming.{Incoming, TakesPacket, ClockReads, Reaps, Posts, Subscribes, Removes, Informs}
 use Rattle.nc_worker_state.specs.Deed.{Deed, Does, Makes, told, next_after}
 use Rattle.nc_worker_state.specs.Desk.{Served, is_waiting, replied, with_spooled, handled as answered, begun}
 use Rattle.nc_worker_state.specs.Spooled.{found_by, answers, facts_deeds}
@@ -146,6 +146,7 @@ plain_before setup w (ClockReads t) world = (tt, tt)
 plain_before setup w Reaps world = tt
 plain_before setup w (Posts c body) world = (tt, tt)
 plain_before setup w (Subscribes k list start) world = (tt, tt)
+plain_before setup w (Removes c) world = (tt, tt)
 plain_before setup w (Informs c) world = (tt, tt)
 
 -- ---- while a worker hasn't released anything since a moment
@@ -319,6 +320,7 @@ module _ (setup : Setup) (is : IsSetup setup) (w : ℕ) (h : List Event) (world 
     begun_well (ClockReads t) f = idle_well
     begun_well Reaps f = idle_well
     begun_well (Posts c body) f = record { shelf = spools_came; deeds = tt }
+    begun_well (Removes c) f = record { shelf = spools_came; deeds = tt }
     begun_well (Informs c) f = record { shelf = spools_came; deeds = tt }
     begun_well (Subscribes k list start) f =
         let b = calls.arrive (record { k = k; once = true }) list start (board_of (world.workers w).desk.spools) tt board_came in
@@ -470,6 +472,7 @@ module _ (setup : Setup) (is : IsSetup setup) where
       no_packet Reaps from p same q = absurd cc
       no_packet (Posts c body) from p same q = absurd cc
       no_packet (Subscribes n list start) from p same q = absurd cc
+      no_packet (Removes c) from p same q = absurd cc
       no_packet (Informs c) from p same q = absurd cc
 
   takes_held : (w v : ℕ) (p : Packet) (ps : List Packet) (h : List Event) (world : World) → Reached setup h world → Good setup h world → world.rings v w ≡ p ∷ ps → SendsHeld setup.workers h world → SendsHeld setup.workers (onto (handled_events setup w (TakesPacket v p) world) h) (handled setup w (TakesPacket v p) world)

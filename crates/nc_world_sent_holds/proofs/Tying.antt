@@ -26,6 +26,7 @@ use Rattle.nc_owner.specs.Poll.{free_slots, freed_events}
 use Rattle.nc_owner.specs.Publish.{Polls, Outcome, late, full, stored, asked, roomy, leaving, lowest_slot, granted_events, notices, answer, stored_status, info_of, store_bench, stored_event, stamp, post_events, post_alerts, publish_events, publish_alerts, publish_cleared, publish_outcome, cleared_events}
 use Rattle.nc_owner.specs.Look.{found_on, looked_event, found_events, found_line, look_ready, look_events, look_alerts, answered, counted_at}
 use Rattle.nc_owner.specs.OtherSteps.{touched_of, touch_events_of, info_alerts, join_events, part_events, polled_events}
+use Rattle.nc_owner.specs.Remove.{removal_events, removal_alerts}
 use Rattle.nc_owner_laws.specs.Aside.{IsAside}
 use Rattle.nc_owner_laws.specs.OwnerTold.{channel_of}
 use Rattle.nc_owner_laws.specs.Filters.{new_desk}
@@ -34,7 +35,8 @@ use Rattle.nc_owner_laws.specs.Kinds.{IsOfOwner, AreOfOwner}
 use Rattle.nc_owner_laws.specs.OwnerStanding.{Stands}
 use Rattle.nc_owner_laws.specs.Weave.{weave, numbered}
 use Rattle.nc_owner_laws.proofs.Events.{name_self}
-use Rattle.nc_owner_laws.proofs.EventKinds.{owners_kinds}
+use Rattle.nc_owner_laws.proofs.EventKinds.{of_removal, owners_kinds}
+use Rattle.nc_owner_laws.proofs.Sweeping.{told_so}
 use Rattle.nc_owner_laws.proofs.After.{name_is, found_after}
 use Rattle.nc_owner_laws.proofs.StepEvents as telling
 use Rattle.nc_owner_laws.proofs.Stamping as stamping
@@ -281,7 +283,8 @@ tied_theme setup me = record {
         join = λ m c owns there. plain me next h fact s.desk.me (join_events m c row s) [] (kinds.join m c) tt;
         part = λ m c owns there. plain me next h fact s.desk.me (part_events m c row s) [] (kinds.part m c) tt;
         info = λ from r c owns there. plain me next h fact s.desk.me (touch_events_of c row s) (info_alerts from r c row s) (kinds.touch c) (info_none (exists c s) r (info_of (touched_of c row s).channel), tt);
-        sweep = λ c. plain me next h fact s.desk.me (touch_events_of c row s) [] (kinds.touch c) tt;
+        touch = λ c owns. plain me next h fact s.desk.me (touch_events_of c row s) [] (kinds.touch c) tt;
+        remove = λ c cause owns may. plain me next h fact s.desk.me (removal_events c cause s) (removal_alerts c s) (of_removal true cause c s) (told_so (λ a. BringsNothing a.line) c (λ ms to. tt) true s);
         look = λ from number c id owns there. as_me (Along TiedAt) me next h s is (look_events from number c id row s) (look_alerts from number c id row s) (look_tied me setup.workers setup.slots setup.first next row h s base.keeps.stands fact from number c id);
         polled = λ answers each. plain me next h fact s.desk.me (polled_events answers s) [] (kinds.polled answers) tt;
         publish = λ from o polls owns there fit. as_me (Along TiedAt) me next h s is (publish_events from o polls row s) (publish_alerts from o polls row s) (publish_tied me setup.workers setup.slots setup.first next row h s base.keeps.stands fact from o polls);

@@ -1,14 +1,16 @@
 -- A slot is freed that nobody holds.
 use Rattle.std.proofs.Common.{◌≡◌, ℕ, ◌<◌, ◌+◌, Bool, true, false, cond, not, List, [], ◌∷◌, ◌++◌, Option, Some, None, refl, sym, ap, ◌∙◌, subst, map, arith}
-use Rattle.std.specs.Prelude.{◌==◌, fold, slice_index}
+use Rattle.std.specs.Prelude.{◌==◌, slice_index}
 use Rattle.std.specs.List.{AllByRecursion}
 use Rattle.std.proofs.lemmas.Bool.Decides.{nat_tests}
 use Rattle.nc_journal.specs.History.{own, onto, Along}
 use Rattle.nc_journal.specs.Holding.{holds}
 use Rattle.nc_journal.specs.declared.event.Event.{Event}
-use Rattle.nc_journal.specs.declared.event.Event.TheVariants.{Joined, Parted, Granted, Released, Freed}
+use Rattle.nc_journal.specs.declared.event.Event.TheVariants.{Joined, Parted, Granted, Released, Freed, Left, Removed}
 use Rattle.nc_journal.specs.declared.word.LeftCause.{LeftCause}
-use Rattle.nc_journal.specs.declared.word.LeftCause.TheVariants.{Expired, Spent, Length}
+use Rattle.nc_journal.specs.declared.word.LeftCause.TheVariants.{Expired, Spent, Length, Deleted}
+use Rattle.nc_journal.specs.declared.word.RemovedCause.{RemovedCause}
+use Rattle.nc_journal.specs.declared.word.RemovedCause.TheVariants.{Deleted as ByDeletion}
 use Rattle.nc_journal.specs.declared.alert.AlertLine.{AlertLine}
 use Rattle.nc_journal.specs.declared.alert.AlertLine.TheVariants as lines
 use Rattle.nc_types.specs.Id.{Id}
@@ -19,7 +21,8 @@ use Rattle.nc_owner.specs.declared.order.Order.{Order}
 use Rattle.nc_owner.specs.declared.member.Member.{Member}
 use Rattle.nc_owner.specs.declared.poll.PollAnswer.{PollAnswer}
 use Rattle.nc_owner.specs.AlertLines.{OutLine}
-use Rattle.nc_owner.specs.State.{Bench, bench_of, opened}
+use Rattle.nc_owner.specs.Remove.{removal_lefts, events_of_removal}
+use Rattle.nc_owner.specs.State.{OwnerAt, Bench, bench_of, entries_of, exists, opened}
 use Rattle.nc_owner.specs.Ascending.{ascending}
 use Rattle.nc_owner.specs.Leave.{left_event, leavers, touched, spend_events}
 use Rattle.nc_owner.specs.Members.{has_member}
@@ -28,21 +31,25 @@ use Rattle.nc_owner.specs.Publish.{Polls, Outcome, late, full, stored, granted_e
 use Rattle.nc_owner.specs.Look.{found_on, looked_event, found_events, look_ready}
 use Rattle.nc_owner.specs.Fence.{raise_events}
 use Rattle.nc_owner.specs.Edge.{edged_event}
-use Rattle.nc_owner.specs.OtherSteps.{touch_events_of, touch_after, parted_events, names_of}
+use Rattle.nc_owner.specs.OtherSteps.{touch_events_of, touch_after, parted_events}
 use Rattle.nc_owner_laws.specs.HoldsKept.{told_answers, told_polls}
-use Rattle.nc_owner_laws.specs.Weave.{weave, makes, numbered}
+use Rattle.nc_owner_laws.specs.OwnChannels.{OwnsChannels}
+use Rattle.nc_owner_laws.specs.Reaping.{steps_woven, next_behind}
+use Rattle.nc_owner_laws.specs.Sweeping.{AllEvents, IsOfRemovals}
+use Rattle.nc_owner_laws.specs.Weave.{weave, makes, numbered, numbered_by}
 use Rattle.nc_owner_laws.proofs.Fences.{raise_are}
-use Rattle.nc_reaper.specs.Reap.{swept_all, swept, Swept}
+use Rattle.nc_owner_laws.proofs.Sweeping.{reaps_are}
+use Rattle.nc_reaper.specs.Reap.{Step, swept_all}
 use Rattle.nc_worker_state.specs.Setup.{Setup}
-use Rattle.nc_worker_state.specs.Incoming.{Incoming, TakesPacket, ClockReads, Reaps, Posts, Subscribes, Informs}
-use Rattle.nc_worker_state.specs.Owned.{Holding, order_of, looked_by, edged_by, fenced, owned, owned_by, line_polls}
-use Rattle.nc_worker_state.specs.Worker.{holding}
+use Rattle.nc_worker_state.specs.Incoming.{Incoming, TakesPacket, ClockReads, Reaps, Posts, Subscribes, Removes, Informs}
+use Rattle.nc_worker_state.specs.Owned.{Holding, OwnersPart, order_of, looked_by, edged_by, fenced, owned, owned_by, line_polls}
+use Rattle.nc_worker_state.specs.Worker.{holding, woven, part_woven}
 use Rattle.nc_world.specs.World.{World, seat, handled_events}
 use Rattle.nc_world.specs.Reached.{IsSetup, Reached}
 use Rattle.nc_world_laws.specs.Kinds.{IsOfWorker}
 use Rattle.nc_world_laws.specs.Good.{Good}
 use Rattle.nc_world_laws.specs.WorldTheme.{WorldFact, IsWorldTheme}
-use Rattle.nc_world_laws.proofs.Local.{all_append}
+use Rattle.nc_world_laws.proofs.Local.{all_append, all_of}
 use Rattle.nc_world_laws.proofs.Telling.{woven_all}
 use Rattle.nc_world_laws.proofs.Parts.{owns, before, part, behind, behind_all}
 use Rattle.nc_world_laws.proofs.Frames.{handled_onto}
@@ -105,6 +112,10 @@ module _ (me : ℕ) (counts : List ℕ) where
           → AllByRecursion IsCalm (freed_events v ((record { slot = k; held = not b }) ∷ told_answers counts slots))
       by true e a = ((is, none (slice_index counts k) e), a)
       by false e a = a
+
+  removal_calm : (goes : Bool) (cause : RemovedCause) (c : List ℕ) (s : OwnerAt) → AllByRecursion IsCalm (events_of_removal goes cause c s)
+  removal_calm true cause c s = all_append IsCalm (removal_lefts c Deleted s) _ (left_calm s.desk.me c Deleted (entries_of (opened c s))) (tt, tt)
+  removal_calm false cause c s = tt
 
   parted_calm : (b : Bool) (v : ℕ) (c : List ℕ) (m : Member) → AllByRecursion IsCalm (cond b (Parted v c m.from m.k ∷ []) [])
   parted_calm true v c m = (tt, tt)
@@ -169,26 +180,31 @@ module _ (me : ℕ) (counts : List ℕ) where
   asked_first from (lines.LookAnswer number q floor found g slot) s is same = tt
   asked_first from (lines.Notice c id g slot) s is same = tt
   asked_first from (lines.EdgeAnswer number q floor last) s is same = tt
-  asked_first from (lines.Delete r c) s is same = tt
+  asked_first from (lines.Delete r c) s is same =
+      calm_first _ (all_append IsCalm (touch_events_of c s.row s.owner) _ (touched_calm c s) (removal_calm (exists c s.owner) ByDeletion c (touch_after c s.row s.owner)))
   asked_first from (lines.DelAnswer r status info) s is same = tt
   asked_first from (lines.Gone c subs) s is same = tt
   asked_first from (lines.InfoAnswer r status info) s is same = tt
 
-  swept_calm : (names : List (List ℕ)) (t : Swept) → AllByRecursion IsCalm t.events → AllByRecursion IsCalm (fold swept t names).events
-  swept_calm [] t a = a
-  swept_calm (c ∷ names) t a = swept_calm names (swept t c) (all_append IsCalm t.events (touch_events_of c t.row t.owner) a (left_calm t.owner.desk.me c Expired (leavers (is_expired t.owner.desk.clock) (bench_of c t.row t.owner))))
+  -- what leaves, and what goes, in a sweep
+  swept_calm : (workers : ℕ) (e : Event) → IsOfRemovals workers me e → IsCalm e
+  swept_calm workers (Left w c id slot cause) r = tt
+  swept_calm workers (Removed w c last cause) r = tt
+  swept_calm workers e r = absurd r
 
-  pub owned_first : (incoming : Incoming) (s : Holding) → s.owner.desk.me ≡ me → s.counts ≡ counts → FreeFirst (owned incoming s).events
-  owned_first (TakesPacket from p) s is same = asked_first from p.line s is same
-  owned_first (ClockReads t) s is same = tt
-  owned_first Reaps s is same =
-      let all = swept_all s.row s.owner in
-      calm_first (all.events ++ freed_events s.owner.desk.me (told_answers s.counts all.owner.desk.retired))
-      (all_append IsCalm all.events (freed_events s.owner.desk.me (told_answers s.counts all.owner.desk.retired)) (swept_calm (names_of s.owner) _ tt)
-      (subst (λ (k : List ℕ). AllByRecursion IsCalm (freed_events s.owner.desk.me (told_answers k all.owner.desk.retired))) (sym same) (freed_calm s.owner.desk.me all.owner.desk.retired is)))
-  owned_first (Posts c body) s is same = tt
-  owned_first (Subscribes k list start) s is same = tt
-  owned_first (Informs c) s is same = tt
+  pub owned_first : (workers : ℕ) (incoming : Incoming) (s : Holding) → s.owner.desk.me ≡ me → OwnsChannels workers me s.owner → s.counts ≡ counts → AllEvents IsCalm (owned incoming s).sweeps × FreeFirst (owned incoming s).last.events
+  owned_first workers (TakesPacket from p) s is owns same = (tt, asked_first from p.line s is same)
+  owned_first workers (ClockReads t) s is owns same = (tt, tt)
+  owned_first workers Reaps s is owns same =
+      let retired = (swept_all s.row s.owner).owner.desk.retired in (
+        all_of (λ x. AllByRecursion (IsOfRemovals workers me) x.events) (λ x. AllByRecursion IsCalm x.events) (λ x a. all_of (IsOfRemovals workers me) IsCalm (swept_calm workers) x.events a) _ (reaps_are workers me s.row s.owner is owns).events,
+        calm_first (freed_events s.owner.desk.me (told_answers s.counts retired))
+            (subst (λ (k : List ℕ). AllByRecursion IsCalm (freed_events s.owner.desk.me (told_answers k retired))) (sym same) (freed_calm s.owner.desk.me retired is)),
+      )
+  owned_first workers (Posts c body) s is owns same = (tt, tt)
+  owned_first workers (Subscribes k list start) s is owns same = (tt, tt)
+  owned_first workers (Removes c) s is owns same = (tt, tt)
+  owned_first workers (Informs c) s is owns same = (tt, tt)
 
   -- ---- with the alerts that it makes
 
@@ -204,6 +220,18 @@ module _ (me : ℕ) (counts : List ℕ) where
   woven_first w next (Granted v g slot to ∷ es) [] f = woven_unfreed w next es [] f
   woven_first w next (Granted v g slot to ∷ es) (a ∷ alerts) f = (tt, woven_unfreed w (numbered next a.to) es alerts f)
   woven_first w next (e ∷ es) alerts f = (f.0, woven_first w next es alerts f.1)
+
+  steps_calm : (w : ℕ) (next : ℕ → ℕ) (steps : List Step) → AllEvents IsCalm steps → AllByRecursion IsCalm (steps_woven w next steps)
+  steps_calm w next [] a = tt
+  steps_calm w next (x ∷ steps) a =
+      let later = numbered_by next x.alerts in
+      all_append IsCalm (weave w next x.events x.alerts) (steps_woven w later steps) (woven_all IsCalm w next (λ to n l. tt) x.events x.alerts a.0) (steps_calm w later steps a.1)
+
+  -- steps that are calm, and behind them what frees first
+  pub part_first : (w : ℕ) (next : ℕ → ℕ) (p : OwnersPart) → AllEvents IsCalm p.sweeps → FreeFirst p.last.events → FreeFirst (part_woven w next p)
+  part_first w next p a f =
+      first_append (steps_woven w next p.sweeps) (woven w (next_behind next p.sweeps) p.last)
+      (steps_calm w next p.sweeps a) (woven_first w (next_behind next p.sweeps) p.last.events p.last.alerts f)
 
   -- ---- over a history
 
@@ -236,6 +264,7 @@ module _ (setup : Setup) (is : IsSetup setup) where
   opening_first w counts Reaps world = tt
   opening_first w counts (Posts c body) world = (tt, tt)
   opening_first w counts (Subscribes k list start) world = (tt, tt)
+  opening_first w counts (Removes c) world = (tt, tt)
   opening_first w counts (Informs c) world = (tt, tt)
 
   opening_told : (w : ℕ) (counts : List ℕ) (i : Incoming) (h : List Event) (world : World) → AreTold w counts setup.slots h → AreTold w counts setup.slots (onto (before setup w i world) h)
@@ -244,6 +273,7 @@ module _ (setup : Setup) (is : IsSetup setup) where
   opening_told w counts Reaps h world t = t
   opening_told w counts (Posts c body) h world t = t
   opening_told w counts (Subscribes k list start) h world t = t
+  opening_told w counts (Removes c) h world t = t
   opening_told w counts (Informs c) h world t = t
 
   unfreed_worker : (w : ℕ) (e : Event) → IsOfWorker w e → IsUnfreed e
@@ -255,9 +285,10 @@ module _ (setup : Setup) (is : IsSetup setup) where
       let counts = world.counts w in
       let me = is_me w setup.workers setup.slots setup.first (world.rows w) (own w h) (world.workers w).owner (g.keeps w).stands in
       let told : AreTold w counts setup.slots h = (reached_counts setup h world is r).each w in
+      let calm = owned_first w counts setup.workers incoming (holding w (seat w world)) me (g.owns w) refl in
       let first = first_along w counts setup.slots (before setup w incoming world) h (opening_first w counts incoming world) told a in
       let second = first_along w counts setup.slots (part w incoming world) (onto (before setup w incoming world) h)
-      (woven_first w counts w (world.workers w).next (owns w incoming world).events (owns w incoming world).alerts (owned_first w counts incoming (holding w (seat w world)) me refl))
+      (part_first w counts w (world.workers w).next (owns w incoming world) calm.0 calm.1)
       (opening_told w counts incoming h world told) first in
       subst (Along (UnheldAt setup.slots)) (sym (handled_onto setup is w incoming h world g h))
       (unfreed_along w counts setup.slots (behind setup w incoming world) (onto (part w incoming world) (onto (before setup w incoming world) h))

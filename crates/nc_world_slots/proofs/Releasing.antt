@@ -10,7 +10,7 @@ use Rattle.nc_owner_laws.specs.Kinds.{IsOfOwner}
 use Rattle.nc_owner_laws.specs.SlotRule.{OwnersSlots}
 use Rattle.nc_history.specs.Packets.{Packet, kind_of, pending, lines_of}
 use Rattle.nc_worker_state.specs.Setup.{Setup}
-use Rattle.nc_worker_state.specs.Incoming.{Incoming, TakesPacket, ClockReads, Reaps, Posts, Subscribes, Informs}
+use Rattle.nc_worker_state.specs.Incoming.{Incoming, TakesPacket, ClockReads, Reaps, Posts, Subscribes, Removes, Informs}
 use Rattle.nc_worker_state.specs.Deed.{next_after}
 use Rattle.nc_worker_state.specs.Worker.{WorkerAt, with_at, dealt_worker}
 use Rattle.nc_world.specs.World.{World, handled_events}
@@ -90,6 +90,7 @@ module _ (setup : Setup) (is : IsSetup setup) (w : ℕ) (incoming : Incoming) (h
   opening_unreleased Reaps = tt
   opening_unreleased (Posts c body) = (tt, tt)
   opening_unreleased (Subscribes k list start) = (tt, tt)
+  opening_unreleased (Removes c) = (tt, tt)
   opening_unreleased (Informs c) = (tt, tt)
 
   pub step_taken : HasThem → Along TakenAt h → Along TakenAt (onto (handled_events setup w incoming world) h)
@@ -134,6 +135,7 @@ module _ (setup : Setup) (is : IsSetup setup) where
   input_has w Reaps h world r g whole i k o n slot lt = kept_held h world r k w o n slot (omega (arith, lt))
   input_has w (Posts c body) h world r g whole i k o n slot lt = held_onto o n slot w (before setup w (Posts c body) world) h (kept_held h world r k w o n slot (omega (arith, lt)))
   input_has w (Subscribes m list start) h world r g whole i k o n slot lt = held_onto o n slot w (before setup w (Subscribes m list start) world) h (kept_held h world r k w o n slot (omega (arith, lt)))
+  input_has w (Removes c) h world r g whole i k o n slot lt = held_onto o n slot w (before setup w (Removes c) world) h (kept_held h world r k w o n slot (omega (arith, lt)))
   input_has w (Informs c) h world r g whole i k o n slot lt = held_onto o n slot w (before setup w (Informs c) world) h (kept_held h world r k w o n slot (omega (arith, lt)))
 
   input_whole : (w : ℕ) (incoming : Incoming) (h : List Event) → IsInput w h incoming → IsWholeIncoming incoming
@@ -142,6 +144,7 @@ module _ (setup : Setup) (is : IsSetup setup) where
   input_whole w Reaps h i = tt
   input_whole w (Posts c body) h i = tt
   input_whole w (Subscribes k list start) h i = tt
+  input_whole w (Removes c) h i = tt
   input_whole w (Informs c) h i = tt
 
   module _ (w v : ℕ) (p : Packet) (ps : List Packet) (h : List Event) (world : World) (r : Reached setup h world) (g : Good setup h world) (at : world.rings v w ≡ p ∷ ps) where

@@ -55,7 +55,7 @@ module _ (workers slots : ℕ) where
   left_within Expired w c id slot newer older a x = has_within _ (buffer c older) id slot (filter_within (λ m. not (is_gone c m.id older)) (published c older) (stored_within c older a)) x
   left_within Length w c id slot newer older a x = first_within (buffer c older) id slot (filter_within (λ m. not (is_gone c m.id older)) (published c older) (stored_within c older a)) x.0
   left_within Spent w c id slot newer older a x = has_within _ (buffer c older) id slot (filter_within (λ m. not (is_gone c m.id older)) (published c older) (stored_within c older a)) x
-  left_within Deleted w c id slot newer older a x = absurd x
+  left_within Deleted w c id slot newer older a x = first_within (buffer c older) id slot (filter_within (λ m. not (is_gone c m.id older)) (published c older) (stored_within c older a)) x.0
 
   -- ---- what is retired is one of the slots
 

@@ -16,7 +16,7 @@ use Rattle.nc_owner_laws.proofs.Stamping.{onto_append}
 use Rattle.nc_spool_state.specs.Kept.{is_idle}
 use Rattle.nc_history.specs.Packets.{Packet}
 use Rattle.nc_worker_state.specs.Setup.{Setup}
-use Rattle.nc_worker_state.specs.Incoming.{Incoming, TakesPacket, ClockReads, Reaps, Posts, Subscribes, Informs}
+use Rattle.nc_worker_state.specs.Incoming.{Incoming, TakesPacket, ClockReads, Reaps, Posts, Subscribes, Removes, Informs}
 use Rattle.nc_worker_state.specs.Deed.{Does, told, next_after}
 use Rattle.nc_worker_state.specs.Spooled.{found_in, found_by, releases}
 use Rattle.nc_worker_state.specs.Desk.{Desk, Served, unserved, is_waiting, without, replied, handled as answered, begun}
@@ -35,6 +35,7 @@ use Rattle.nc_world_members.proofs.Staging.{reached_has_stages, spools_stand}
 use Rattle.nc_world_ordered.specs.Orderly.{IsOrderly, AllStand, AllStart}
 use Rattle.nc_world_ordered.proofs.Calls.{answer_orderly, notice_orderly, arrival_orderly}
 use Rattle.nc_world_ordered.proofs.Edging.{edge_orderly}
+use Rattle.nc_world_ordered.proofs.Losses.{loss_orderly}
 use Rattle.nc_world_standing.specs.Standing.{HistoriesStand}
 use Rattle.nc_world_standing.proofs.Plain.{plain_orderly, plain_stage, plain_stand, plain_start, subscribed_orderly, told_split, released_plain}
 use Rattle.nc_world_standing.proofs.Opening.{IsUnsubscribed, opens_onto}
@@ -61,7 +62,7 @@ unsubscribed_worker w e p = tt
 
 -- what comes to a worker is as it counts on
 abbrev Fits : Setup → ℕ → List Event → Incoming → Type 0
-Fits setup w h (TakesPacket from p) = IsLineTo setup.workers w p.line
+Fits setup w h (TakesPacket from p) = IsLineTo setup.workers from w p.line
 Fits setup w h (Subscribes k list start) = Comes w k list start h
 Fits setup w h incoming = Unit {0}
 
@@ -71,6 +72,7 @@ input_fits setup w h (ClockReads t) i = tt
 input_fits setup w h Reaps i = tt
 input_fits setup w h (Posts c body) i = tt
 input_fits setup w h (Subscribes k list start) i = i
+input_fits setup w h (Removes c) i = tt
 input_fits setup w h (Informs c) i = tt
 
 module _ (setup : Setup) (is : IsSetup setup) (w : ℕ) (h : List Event) (world : World) (reached : Reached setup h world) (g : Good setup h world) (k : Stands h) where
@@ -91,6 +93,7 @@ module _ (setup : Setup) (is : IsSetup setup) (w : ℕ) (h : List Event) (world 
   opened_orderly Reaps f = k.orderly
   opened_orderly (Posts c body) f = plain_orderly (_ ∷ []) h (tt, tt) k.orderly
   opened_orderly (Subscribes n list start) f = subscribed_orderly w n None list Direct start setup.sub_timeout false h (absent n f.new) k.orderly
+  opened_orderly (Removes c) f = plain_orderly (_ ∷ []) h (tt, tt) k.orderly
   opened_orderly (Informs c) f = plain_orderly (_ ∷ []) h (tt, tt) k.orderly
 
   opened_opens : (incoming : Incoming) → Fits setup w h incoming → Along SubscribesAt (onto (before setup w incoming world) h)
@@ -99,6 +102,7 @@ module _ (setup : Setup) (is : IsSetup setup) (w : ℕ) (h : List Event) (world 
   opened_opens Reaps f = k.opens
   opened_opens (Posts c body) f = (k.opens, tt)
   opened_opens (Subscribes n list start) f = (k.opens, (f.distinct, f.fits))
+  opened_opens (Removes c) f = (k.opens, tt)
   opened_opens (Informs c) f = (k.opens, tt)
 
   -- ---- what the worker does behind its owner's part
@@ -135,7 +139,7 @@ module _ (setup : Setup) (is : IsSetup setup) (w : ℕ) (h : List Event) (world 
   reply_orderly next l r status info o =
       either (λ (x : Served). IsOrderly (onto (told w next x.deeds) l)) (is_waiting r d.waiting) (record { deeds = Does (events.Answered w r None status info false false) ∷ []; after = record d { waiting = without r d.waiting } }) (unserved d) (plain_orderly (_ ∷ []) l (tt, tt) o) o
 
-  packet_orderly : (next : ℕ → ℕ) (l : List Event) (from : ℕ) (line : AlertLine) → IsLineTo setup.workers w line → AllStand w l d.spools → AllStart w l d.spools → IsOrderly l
+  packet_orderly : (next : ℕ → ℕ) (l : List Event) (from : ℕ) (line : AlertLine) → IsLineTo setup.workers from w line → AllStand w l d.spools → AllStart w l d.spools → IsOrderly l
       → IsOrderly (onto (told w next (answered w from line d).deeds) l)
   packet_orderly next l from (lines.PubAnswer r status info usage) f stand start o = reply_orderly next l r status info o
   packet_orderly next l from (lines.InfoAnswer r status info) f stand start o = reply_orderly next l r status info o
@@ -145,7 +149,7 @@ module _ (setup : Setup) (is : IsSetup setup) (w : ℕ) (h : List Event) (world 
   packet_orderly next l from (lines.Notice c id gr slot) f stand start o =
       notice_orderly w c (found_by from id gr slot) next l d.spools ((reached_has_members setup h world is reached).singly w).once stand o
   packet_orderly next l from (lines.EdgeAnswer number q floor last) f stand start o = edge_orderly w number floor last next l d.spools start o
-  packet_orderly next l from (lines.Gone c subs) f stand start o = absurd f
+  packet_orderly next l from (lines.Gone c subs) f stand start o = loss_orderly w c subs next l d.spools ((reached_has_members setup h world is reached).singly w).once stand start o
   packet_orderly next l from (lines.Publish r c len timeout ct body) f stand start o = o
   packet_orderly next l from (lines.Look number c after fence) f stand start o = o
   packet_orderly next l from (lines.Edge number n c fence) f stand start o = o
@@ -160,6 +164,7 @@ module _ (setup : Setup) (is : IsSetup setup) (w : ℕ) (h : List Event) (world 
   begun_orderly next Reaps f = owned_orderly Reaps f
   begun_orderly next (Posts c body) f = plain_orderly (_ ∷ []) (owned (Posts c body)) (tt, tt) (owned_orderly (Posts c body) f)
   begun_orderly next (Subscribes n list start) f = arrival_orderly w n list start true next (owned (Subscribes n list start)) d.spools (comes_starting n list start) (owned_orderly (Subscribes n list start) f)
+  begun_orderly next (Removes c) f = plain_orderly (_ ∷ []) (owned (Removes c)) (tt, tt) (owned_orderly (Removes c) f)
   begun_orderly next (Informs c) f = plain_orderly (_ ∷ []) (owned (Informs c)) (tt, tt) (owned_orderly (Informs c) f)
 
   -- the releases stand at the end

@@ -1,3 +1,4 @@
 pub mod Written
 pub mod Sends
 pub mod Staying
+pub mod Leaving

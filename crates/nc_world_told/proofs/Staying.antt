@@ -170,7 +170,8 @@ no_reader k (r ∷ rs) e = (by (r.k == k) refl e, no_reader k rs (omega (arith, 
     by true was e = absurd (omega (arith, e))
     by false was e = back r.k k was
 
-no_readers : (k : ℕ) (ss : List SpoolAt) → total (readers_of k) ss ≡ 0 → AllByRecursion (IsNotIn k) ss
+-- who is counted nowhere is in none of some spools
+pub no_readers : (k : ℕ) (ss : List SpoolAt) → total (readers_of k) ss ≡ 0 → AllByRecursion (IsNotIn k) ss
 no_readers k [] e = tt
 no_readers k (s ∷ ss) e = (no_reader k s.readers (omega (arith, e)), no_readers k ss (omega (arith, e)))
 

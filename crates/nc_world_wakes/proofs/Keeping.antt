@@ -20,7 +20,7 @@ use Rattle.nc_spool_laws.specs.Standing.{PlaceHeld, IsHeld, AnswerHeld}
 use Rattle.nc_spool_laws.proofs.Holds.{holds-rule}
 use Rattle.nc_spool_laws.proofs.Local.{held-kept}
 use Rattle.nc_worker_state.specs.Setup.{Setup}
-use Rattle.nc_worker_state.specs.Incoming.{Incoming, TakesPacket, ClockReads, Reaps, Posts, Subscribes, Informs}
+use Rattle.nc_worker_state.specs.Incoming.{Incoming, TakesPacket, ClockReads, Reaps, Posts, Subscribes, Removes, Informs}
 use Rattle.nc_worker_state.specs.Desk.{Desk, Served, replied, is_waiting, handled as answered, begun, served}
 use Rattle.nc_worker_state.specs.Spooled.{Hold, found_by, found_in, is_busy, without_idles}
 use Rattle.nc_worker_state.specs.Worker.{WorkerAt, with_at, dealt_worker}
@@ -126,6 +126,7 @@ module _ (me : ℕ) (d : Desk) (k : AreHeld d.spools) where
   begun_held setup (ClockReads t) = k
   begun_held setup Reaps = k
   begun_held setup (Posts c body) = k
+  begun_held setup (Removes c) = k
   begun_held setup (Informs c) = k
   begun_held setup (Subscribes n list start) = (held-kept d.spools.kept).arrive (record { k = n; once = true }) list start (board_of d.spools) tt k
 

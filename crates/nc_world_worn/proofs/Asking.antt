@@ -18,7 +18,7 @@ use Rattle.nc_spool.specs.Calls.{board_of, news_of, answer_facts, notice_facts, 
 use Rattle.nc_spool_laws.specs.Numbers.{total}
 use Rattle.nc_spool_laws.proofs.Totals.{total-append}
 use Rattle.nc_worker_state.specs.Setup.{Setup}
-use Rattle.nc_worker_state.specs.Incoming.{Incoming, TakesPacket, ClockReads, Reaps, Posts, Subscribes, Informs}
+use Rattle.nc_worker_state.specs.Incoming.{Incoming, TakesPacket, ClockReads, Reaps, Posts, Subscribes, Removes, Informs}
 use Rattle.nc_worker_state.specs.Deed.{Deed, Does, Makes, told}
 use Rattle.nc_worker_state.specs.Desk.{Desk, Served, replied, is_waiting, handled, settled, begun, served}
 use Rattle.nc_worker_state.specs.Spooled.{Hold, ask_line, fact_deed, facts_deeds, release, releases, found_by, found_in}
@@ -72,6 +72,7 @@ releases_ask me (h ∷ hs) = let z = releases_ask me hs in omega (arith, z)
 -- how many requests an input is
 abbrev pub incoming_requests : Incoming → ℕ
 incoming_requests (Posts c body) = 1
+incoming_requests (Removes c) = 1
 incoming_requests (Informs c) = 1
 incoming_requests incoming = 0
 
@@ -140,6 +141,7 @@ module _ (me : ℕ) where
     begun_rises setup (ClockReads t) = nothing_rises
     begun_rises setup Reaps = nothing_rises
     begun_rises setup (Posts c body) = record { asks = omega arith; requests = refl }
+    begun_rises setup (Removes c) = record { asks = omega arith; requests = refl }
     begun_rises setup (Informs c) = record { asks = omega arith; requests = refl }
     begun_rises setup (Subscribes k list start_at) = record {
       asks = spools_rise d _ _ (arrive_facts k list start_at true d.spools) ((drawn_kept d.spools.next).arrive (record { k = k; once = true }) list start_at (board_of d.spools) tt start);

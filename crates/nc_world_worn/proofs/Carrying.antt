@@ -12,7 +12,7 @@ use Rattle.nc_owner_laws.specs.Kinds.{IsOfOwner}
 use Rattle.nc_spool_laws.specs.Numbers.{total}
 use Rattle.nc_history.specs.Packets.{Packet}
 use Rattle.nc_worker_state.specs.Setup.{Setup}
-use Rattle.nc_worker_state.specs.Incoming.{Incoming, TakesPacket, ClockReads, Reaps, Posts, Subscribes, Informs}
+use Rattle.nc_worker_state.specs.Incoming.{Incoming, TakesPacket, ClockReads, Reaps, Posts, Subscribes, Removes, Informs}
 use Rattle.nc_worker_state.specs.Deed.{next_after}
 use Rattle.nc_worker_state.specs.Worker.{WorkerAt, with_at, dealt_worker, holding}
 use Rattle.nc_world.specs.World.{World, seat, polls_of, handled_events, handled}
@@ -24,10 +24,10 @@ use Rattle.nc_world_laws.specs.WorldTheme.{WorldFact, IsWorldTheme}
 use Rattle.nc_world_laws.proofs.Local.{all_of, own_onto, own_other}
 use Rattle.nc_world_laws.proofs.Acting.{with_all}
 use Rattle.nc_world_laws.proofs.Frames.{handled_onto}
-use Rattle.nc_world_laws.proofs.Parts.{owns, serves, before, part, behind, of, part_all, behind_all, step_by}
-use Rattle.nc_world_laws.proofs.Telling.{woven_made, unmade_owner}
+use Rattle.nc_world_laws.proofs.Parts.{owns, serves, before, part, behind, part_all, part_made, part_alerts, behind_all, step_by}
+use Rattle.nc_world_laws.proofs.Telling.{unmade_owner}
 use Rattle.nc_world_laws.proofs.WorldThemes.{world_theme_holds}
-use Rattle.nc_world_asks.proofs.Unlooked.{IsUnasking, MakesUnasking, unasking_owned}
+use Rattle.nc_world_asks.proofs.Unlooked.{IsUnasking, MakesUnasking, unasking_line}
 use Rattle.nc_world_worn.proofs.Asking.{event_asks, deed_asks, event_requests, told_asks, incoming_requests, served_rises}
 
 -- ---- sums over events
@@ -88,6 +88,7 @@ module _ (setup : Setup) (is : IsSetup setup) (x : ℕ) (incoming : Incoming) (h
   opening_asks Reaps = refl
   opening_asks (Posts c body) = refl
   opening_asks (Subscribes k list start) = refl
+  opening_asks (Removes c) = refl
   opening_asks (Informs c) = refl
 
   opening_requests : (i : Incoming) → total event_requests (before setup x i world) ≡ incoming_requests i
@@ -96,13 +97,13 @@ module _ (setup : Setup) (is : IsSetup setup) (x : ℕ) (incoming : Incoming) (h
   opening_requests Reaps = refl
   opening_requests (Posts c body) = refl
   opening_requests (Subscribes k list start) = refl
+  opening_requests (Removes c) = refl
   opening_requests (Informs c) = refl
 
   part_asks : total event_asks (part x incoming world) ≡ 0
   part_asks = none_total event_asks (part x incoming world) (all_of MakesUnasking (λ e. event_asks e ≡ 0) none_asked (part x incoming world)
-      (woven_made MakesUnasking (λ (a : OutLine). IsUnasking a.line) x (λ n a p. p) (world.workers x).next (owns x incoming world).events (owns x incoming world).alerts
-      (all_of (IsOfOwner x) MakesUnasking (λ e p. unmade_unasking e (unmade_owner x e p)) (owns x incoming world).events (of setup is x incoming h world g))
-      (unasking_owned (polls_of x incoming world) incoming (holding x (seat x world)))))
+      (part_made setup is x incoming h world g MakesUnasking (λ (a : OutLine). IsUnasking a.line) (λ e p. unmade_unasking e (unmade_owner x e p)) (λ n a p. p)
+      (part_alerts setup is x incoming h world g (λ (a : OutLine). IsUnasking a.line) (λ from p e. unasking_line (polls_of x incoming world).publish from p.line (holding x (seat x world))) (λ c subs to mine. tt))))
 
   step_asks : (l : List Event) → total event_asks (onto es l) ≡ total event_asks l + total deed_asks (serves setup x incoming world).deeds
   step_asks l =

@@ -8,7 +8,7 @@ use Rattle.nc_worker_state.specs.Setup.{Setup}
 use Rattle.nc_worker_state.specs.Worker.{is_worn}
 use Rattle.nc_world.specs.World.{World, pending_in}
 use Rattle.nc_world.specs.Moves.{Move, Handles, Carries, Takes, Counts, Rests, moved}
-use Rattle.nc_world.specs.Lines.{Line, Blank, Clocks, Reap, Carry, Take, Settle, Post, Poll, Inform, round, does, is_some_packet, first_turn, turn_with, settle_moves, world_of, lines_world, journal_of}
+use Rattle.nc_world.specs.Lines.{Line, Blank, Clocks, Reap, Carry, Take, Settle, Post, Poll, Remove, Inform, round, does, is_some_packet, first_turn, turn_with, settle_moves, world_of, lines_world, journal_of}
 use Rattle.nc_turns.specs.Worn.{meets_worn, moves_before_worn, before_worn_in}
 use Rattle.nc_world_follows.specs.Fitting.{IsLine, AreFit}
 use Rattle.nc_world_follows.specs.Laws.{FitLinesReach}
@@ -125,6 +125,7 @@ module _ (setup : Setup) where
   line_worn (Settle n) lines m i e = settled_worn m lines (settle_meets n (round setup.workers) (lines_world setup lines) (round_turns setup) m e)
   line_worn (Post w c body) lines m i e = handled_worn w m lines i e
   line_worn (Poll w k list start) lines m i e = handled_worn w m lines i.0 e
+  line_worn (Remove w c) lines m i e = handled_worn w m lines i e
   line_worn (Inform w c) lines m i e = handled_worn w m lines i e
 
 -- the lines that were made fit
