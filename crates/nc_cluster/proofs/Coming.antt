@@ -14,7 +14,7 @@ use Rattle.nc_worker_state.specs.Setup.{Setup}
 use Rattle.nc_worker_state.specs.Incoming.{Incoming, TakesPacket}
 use Rattle.nc_world.specs.World.{World, handled_events, pending_in}
 use Rattle.nc_world.specs.Moves.{Move, Handles, Carries, Takes, Counts, Rests, move_events, moved, counted, rested, taken_events}
-use Rattle.nc_world.specs.Lines.{Line, Blank, Clocks, Reap, Carry, Take, Settle, Post, Poll, Inform, round, does, first_turn, turn_with, settle_moves, moves_of, events_of, line_events}
+use Rattle.nc_world.specs.Lines.{Line, Blank, Clocks, Reap, Carry, Take, Settle, Post, Poll, Remove, Inform, round, does, first_turn, turn_with, settle_moves, moves_of, events_of, line_events}
 use Rattle.nc_world.specs.Reached.{IsSetup, Reached, Moves}
 use Rattle.nc_world.specs.Laws.{CanMove}
 use Rattle.nc_world_laws.specs.Good.{Good}
@@ -135,6 +135,7 @@ line_brings setup (Take x v) world w k = refl
 line_brings setup (Settle n) world w k = turns_bring setup (settle_moves setup n (round setup.workers) world) (settle_turns setup n (round setup.workers) world (round_turns setup)) w k
 line_brings setup (Post x c body) world w k = none (w == x)
 line_brings setup (Poll x n list start) world w k = refl
+line_brings setup (Remove x c) world w k = none (w == x)
 line_brings setup (Inform x c) world w k = none (w == x)
 
 -- by the journal
@@ -153,4 +154,5 @@ line_noted (Post x c body) ms w k = refl
 line_noted (Poll x n list start) ms w k =
     any_inserted member_total (record { from = w; k = k }) (record { from = x; k = n }) ms
     ∙ ap (λ b. b || noted ms w k) (member_is (record { from = w; k = k }) x n ∙ ap (λ b. (w == x) && b) (turned k n))
+line_noted (Remove x c) ms w k = refl
 line_noted (Inform x c) ms w k = refl

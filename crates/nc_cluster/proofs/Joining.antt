@@ -60,6 +60,7 @@ is_line setup h ms (lines.Poll w k list start) c known u = (
     fits = start_fits list start c.1;
   },
 )
+is_line setup h ms (lines.Remove w chan) c known u = c
 is_line setup h ms (lines.Inform w chan) c known u = c
 
 -- ---- one line more

@@ -16,6 +16,7 @@ pure_line (lines.Take w from) = pure.Take w from
 pure_line (lines.Settle n) = pure.Settle n
 pure_line (lines.Post w c body) = pure.Post w c body
 pure_line (lines.Poll w k list start) = pure.Poll w k list start
+pure_line (lines.Remove w c) = pure.Remove w c
 pure_line (lines.Inform w c) = pure.Inform w c
 
 -- a list names channels, each once
@@ -33,4 +34,5 @@ CanMake workers (lines.Take w from) = (w < workers) × (from < workers)
 CanMake workers (lines.Settle n) = Unit {0}
 CanMake workers (lines.Post w c body) = w < workers
 CanMake workers (lines.Poll w k list start) = (w < workers) × FitsList list start × IsListed list
+CanMake workers (lines.Remove w c) = w < workers
 CanMake workers (lines.Inform w c) = w < workers

@@ -111,6 +111,7 @@ pub fn play<W: Hand>(floor: &mut Floor<W>, line: Line) -> Result<Settled, NoMemo
         Line::Settle { n } => settle_line(floor, n),
         Line::Post { w, chan, body } => hand_in(floor, w, Input::Post { chan, body }),
         Line::Poll { w, k, list, start } => hand_in(floor, w, Input::Poll { k, list, start }),
+        Line::Remove { w, chan } => hand_in(floor, w, Input::Remove { chan }),
         Line::Inform { w, chan } => hand_in(floor, w, Input::Inform { chan }),
     }
 }

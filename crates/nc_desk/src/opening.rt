@@ -8,7 +8,7 @@ ghost use Rattle.nc_scribe.specs.Scribe.{KeepsOwn};
 ghost use Rattle.nc_desk.specs.Desk.{KeepsHeld};
 ghost use Rattle.nc_spool.specs.Arrive.{FitsList};
 ghost use Rattle.nc_worker_state.specs.Setup.{setup_of};
-ghost use Rattle.nc_worker_state.specs.Incoming.{Posts, Subscribes, Informs};
+ghost use Rattle.nc_worker_state.specs.Incoming.{Posts, Subscribes, Removes, Informs};
 ghost use Rattle.nc_desk.specs.Begins.{Begins};
 
 use crate::desk::Desk;
@@ -131,6 +131,27 @@ impl<H: Drop> Desk<H> {
         scribe.tell(event)?;
         let to = chan.owner(conf.workers);
         let alert = publish_alert(conf, r, chan, body);
+        self.ask(scribe, Outgoing { to, alert })?;
+        Ok(())
+    }
+
+    /// A channel is to be deleted, which is asked for directly: the channel's owner is asked to delete it.
+    pub fn remove(
+        &mut self,
+        alloc: Global,
+        scribe: &mut Scribe<H>,
+        conf: &Config,
+        chan: ChanName,
+    ) -> Result<(), NoMemory>
+        ensures begins { OnOk result ((first : ℕ) → Begins (setup_of conf.now first) (Removes chan) self.old self.new scribe.old scribe.new) }
+        ensures own { OnOk result ((held : H → HoldAt) → KeepsOwn held scribe.old scribe.new) }
+        ensures spools { OnOk result (self.new.spools ≡ self.old.spools) }
+    {
+        let r = self.requests;
+        let event = asked_event(alloc, scribe.me(), r, Act::Delete, &chan)?;
+        scribe.tell(event)?;
+        let to = chan.owner(conf.workers);
+        let alert = Alert::Delete { r, c: chan };
         self.ask(scribe, Outgoing { to, alert })?;
         Ok(())
     }

@@ -66,11 +66,11 @@ module _ {W : Type 0} (worker : W → WorkerAt) (sound : W → Type 0) (held : P
       less : (a b : ℕ) → a + 1 ≡ b → b - 1 ≡ a
       less a b e = omega (arith, e)
 
-  pub right : IsBetween held packet.from w packet × packet.from < s.conf.workers × IsLineTo s.conf.workers w (alert_line packet.alert)
+  pub right : IsBetween held packet.from w packet × packet.from < s.conf.workers × IsLineTo s.conf.workers packet.from w (alert_line packet.alert)
   right = (
     subst (λ (v : ℕ). IsBetween held v w packet) (sym sender_is) kept.0,
     subst (λ (v : ℕ). v < s.conf.workers) (sym sender_is) sender,
-    taken_right (setup_in s) w from (told_packet packet) behind f.history world f.good told_is,
+    subst (λ (v : ℕ). IsLineTo s.conf.workers v w (alert_line packet.alert)) (sym sender_is) (taken_right (setup_in s) w from (told_packet packet) behind f.history world f.good told_is),
   )
 
   abbrev takes : List Told → Telling

@@ -35,9 +35,10 @@ module _ {H : Type 0} (held : H → HoldAt) where
 
   -- a packet to the worker comes from one that is there and says what it may say to it; a clock keeps its limit, and a given start has a tag for each name
   abbrev pub IsRight : ℕ → ℕ → Input H → Type 0
-  IsRight workers me (inputs.Packet p) = IsBetween p.from me p × (p.from < workers) × IsLineTo workers me (alert_line p.alert)
+  IsRight workers me (inputs.Packet p) = IsBetween p.from me p × (p.from < workers) × IsLineTo workers p.from me (alert_line p.alert)
   IsRight workers me (inputs.Clock t) = IsClock t
   IsRight workers me inputs.Reap = Unit {0}
   IsRight workers me (inputs.Post c body) = Unit {0}
   IsRight workers me (inputs.Poll k list start) = FitsList list start
+  IsRight workers me (inputs.Remove c) = Unit {0}
   IsRight workers me (inputs.Inform c) = Unit {0}

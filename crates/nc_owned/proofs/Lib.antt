@@ -1,4 +1,5 @@
 pub mod Shares
 pub mod Grants
+pub mod Telling
 pub mod Sweeps
 pub mod Fences

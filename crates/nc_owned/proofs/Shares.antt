@@ -5,7 +5,7 @@ use Rattle.std.proofs.Math.Path.{fun_ext}
 use Rattle.std.proofs.lemmas.Bool.Decides.{eqb_tells}
 use Rattle.nc_types.specs.Message.{Message}
 use Rattle.nc_journal.specs.declared.event.Event.{Event}
-use Rattle.nc_journal.specs.declared.event.Event.TheVariants.{Joined, Parted, Raised, Stored, Left, Looked, Edged, Granted, Freed}
+use Rattle.nc_journal.specs.declared.event.Event.TheVariants.{Joined, Parted, Raised, Stored, Left, Looked, Edged, Granted, Freed, Removed}
 use Rattle.nc_journal.specs.declared.alert.AlertLine.{AlertLine}
 use Rattle.nc_journal.specs.declared.alert.AlertLine.TheVariants as lines
 use Rattle.nc_alert.specs.declared.alert.Alert.{Alert}
@@ -45,6 +45,7 @@ aside me (Looked w q from number c after floor found) is = refl
 aside me (Edged w q from number k c floor last) is = refl
 aside me (Granted w g slot to) is = refl
 aside me (Freed w slot) is = refl
+aside me (Removed w c last cause) is = refl
 aside me e is = absurd is
 
 pub all_aside : (me : ℕ) (es : List Event) → AreOfOwner me es → AreAside es

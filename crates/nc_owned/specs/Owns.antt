@@ -7,8 +7,8 @@ use Rattle.nc_owner.specs.State.{OwnerAt}
 use Rattle.nc_owner.specs.Pool.{SameOthers}
 use Rattle.nc_owner_laws.specs.Fits.{Fits}
 use Rattle.nc_worker_state.specs.Incoming.{Incoming}
-use Rattle.nc_worker_state.specs.Owned.{Holding, Owned, StepPolls, StepPollsFit, owned_in}
-use Rattle.nc_worker_state.specs.Worker.{with_at, woven}
+use Rattle.nc_worker_state.specs.Owned.{Holding, StepPolls, StepPollsFit, owned_in}
+use Rattle.nc_worker_state.specs.Worker.{with_at, part_woven}
 use Rattle.nc_outbox.specs.Outboxes.{next_of}
 use Rattle.nc_scribe.specs.Scribe.{ScribeAt, Tells, KeepsOwn}
 
@@ -16,11 +16,11 @@ use Rattle.nc_scribe.specs.Scribe.{ScribeAt, Tells, KeepsOwn}
 abbrev pub holding_at : (ℕ → List (Slot Message)) → (ℕ → List ℕ) → OwnerAt → Holding
 holding_at slots holds s = record { owner = s; row = slots s.desk.me; counts = holds s.desk.me }
 
--- what an owner does in a step is this, it is left so with its slots and their holds, and it still fits them
-pub record Leaves (exact : Bool) (o : Owned) (slots new_slots : ℕ → List (Slot Message)) (holds new_holds : ℕ → List ℕ) (s new : OwnerAt) : Type 0 where
-  pub owner : new ≡ o.after.owner
-  pub row : new_slots s.desk.me ≡ o.after.row
-  pub counts : exact ≡ true → new_holds ≡ with_at holds s.desk.me o.after.counts
+-- an owner is left so by a step, with its slots and their holds, and it still fits them
+pub record Leaves (exact : Bool) (after : Holding) (slots new_slots : ℕ → List (Slot Message)) (holds new_holds : ℕ → List ℕ) (s new : OwnerAt) : Type 0 where
+  pub owner : new ≡ after.owner
+  pub row : new_slots s.desk.me ≡ after.row
+  pub counts : exact ≡ true → new_holds ≡ with_at holds s.desk.me after.counts
   pub others : SameOthers s.desk.me slots new_slots
   pub fits : Fits (new_slots s.desk.me) new
   pub me : new.desk.me ≡ s.desk.me
@@ -29,6 +29,6 @@ pub record Leaves (exact : Bool) (o : Owned) (slots new_slots : ℕ → List (Sl
 pub record Owns {H : Type 0} (held : H → HoldAt) (exact : Bool) (incoming : Incoming) (slots new_slots : ℕ → List (Slot Message)) (holds new_holds : ℕ → List ℕ) (s new : OwnerAt) (scribe later : ScribeAt H) : Type 0 where
   pub polls : StepPolls
   pub fit : StepPollsFit exact incoming (holding_at slots holds s) polls
-  pub leaves : Leaves exact (owned_in polls incoming (holding_at slots holds s)) slots new_slots holds new_holds s new
-  pub tells : Tells scribe later (woven s.desk.me (next_of scribe.outboxes) (owned_in polls incoming (holding_at slots holds s)))
+  pub leaves : Leaves exact (owned_in polls incoming (holding_at slots holds s)).last.after slots new_slots holds new_holds s new
+  pub tells : Tells scribe later (part_woven s.desk.me (next_of scribe.outboxes) (owned_in polls incoming (holding_at slots holds s)))
   pub own : KeepsOwn held scribe later

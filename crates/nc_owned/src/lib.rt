@@ -7,4 +7,4 @@
 
 mod owning;
 
-pub use owning::{edge, inform, join, look, part, publish, sweep};
+pub use owning::{delete, edge, inform, join, look, part, publish, sweep};

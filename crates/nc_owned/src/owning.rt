@@ -5,13 +5,21 @@ ghost use Rattle.nc_journal.specs.declared.alert.AlertLine.TheVariants as lines;
 ghost use Rattle.nc_history.specs.Packets.{packet};
 ghost use Rattle.nc_owner_laws.specs.Fits.{Fits};
 ghost use Rattle.nc_worker_state.specs.Incoming.{TakesPacket, Reaps};
+ghost use Rattle.std.specs.List.{AllByRecursion};
+ghost use Rattle.nc_owner.specs.declared.done.Done.{Done as DoneAt};
+ghost use Rattle.nc_reaper.specs.Reap.{steps_of};
+ghost use Rattle.nc_owner_laws.specs.Reaping.{steps_woven};
+ghost use Rattle.nc_slots.specs.Slots.{HoldAt};
+ghost use Rattle.nc_outbox.specs.Outboxes.{next_of};
+ghost use Rattle.nc_scribe.specs.Kinds.{AreAside};
+ghost use Rattle.nc_scribe.specs.Scribe.{Tells, KeepsOwn, AllGranted};
 ghost use Rattle.nc_owned.specs.Owns.{Owns};
 
-use nc_owner::{Order, Owner};
+use nc_owner::{Done, Order, Owner};
 use nc_reaper::reap;
 use nc_scribe::Scribe;
 use nc_slots::Slots;
-use nc_types::{ChanName, MsgId, NoMemory};
+use nc_types::{ChanName, List, MsgId, NoMemory};
 use std::alloc::Global;
 
 /// A message is published, as worker `from` orders it.
@@ -109,6 +117,24 @@ pub fn part<P: Slots>(
     Ok(())
 }
 
+/// A channel is deleted, as request `r` of worker `from` asks.
+pub fn delete<P: Slots>(
+    owner: &mut Owner,
+    pool: &mut P,
+    scribe: &mut Scribe<P::Hold>,
+    from: u8,
+    r: u64,
+    c: ChanName,
+) -> Result<(), NoMemory>
+    requires me { scribe.old.me ≡ owner.old.desk.me }
+    requires fits { Fits (P.slots pool.old owner.old.desk.me) owner.old }
+    ensures { OnOk result ((n : ℕ) → Owns P.held P.exact (TakesPacket from (packet n (lines.Delete r c))) (P.slots pool.old) (P.slots pool.new) (P.holds pool.old) (P.holds pool.new) owner.old owner.new scribe.old scribe.new) }
+{
+    let done = owner.delete(pool, from, r, c)?;
+    scribe.weave(done)?;
+    Ok(())
+}
+
 /// Worker `from` asks what a channel has, for its request `r`.
 pub fn inform<P: Slots>(
     owner: &mut Owner,
@@ -127,7 +153,19 @@ pub fn inform<P: Slots>(
     Ok(())
 }
 
-/// What has expired leaves all channels, and slots that nobody holds are used again.
+/// Tells what an owner did in some steps, one behind the other, each with the alerts that it made.
+fn weave_all<H: Drop>(scribe: &mut Scribe<H>, steps: List<Done<H>>) -> Result<(), NoMemory>
+    requires aside { AllByRecursion (λ (done : DoneAt H). AreAside done.events.events) steps }
+    ensures tells { OnOk result (Tells scribe.old scribe.new (steps_woven scribe.old.me (next_of scribe.old.outboxes) (steps_of steps))) }
+    ensures own { OnOk result ((held : H → HoldAt) → AllByRecursion (λ (done : DoneAt H). AllGranted held scribe.old.me done.alerts) steps → KeepsOwn held scribe.old scribe.new) }
+{
+    for done in steps.into_vec() {
+        scribe.weave(done)?;
+    }
+    Ok(())
+}
+
+/// What has expired leaves all channels, a channel that keeps nothing and nobody goes, and slots that nobody holds are used again.
 pub fn sweep<P: Slots>(
     alloc: Global,
     owner: &mut Owner,
@@ -138,7 +176,7 @@ pub fn sweep<P: Slots>(
     requires fits { Fits (P.slots pool.old owner.old.desk.me) owner.old }
     ensures { OnOk result (Owns P.held P.exact Reaps (P.slots pool.old) (P.slots pool.new) (P.holds pool.old) (P.holds pool.new) owner.old owner.new scribe.old scribe.new) }
 {
-    let done = reap(alloc, owner, pool)?;
-    scribe.weave(done)?;
+    let steps = reap(alloc, owner, pool)?;
+    weave_all(scribe, steps)?;
     Ok(())
 }

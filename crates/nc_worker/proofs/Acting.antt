@@ -13,9 +13,9 @@ use Rattle.nc_spool.specs.Calls.{SpoolsAt}
 use Rattle.nc_worker_state.specs.Setup.{Setup}
 use Rattle.nc_worker_state.specs.Incoming.{Incoming, ClockReads}
 use Rattle.nc_worker_state.specs.Deed.{told, next_after}
-use Rattle.nc_worker_state.specs.Owned.{Owned, StepPolls, StepPollsFit, owned_in, unowned, no_polls}
+use Rattle.nc_worker_state.specs.Owned.{OwnersPart, StepPolls, StepPollsFit, at_once, owned_in, unowned, no_polls}
 use Rattle.nc_worker_state.specs.Desk.{Served, unserved, opening, begun}
-use Rattle.nc_worker_state.specs.Worker.{woven, with_at}
+use Rattle.nc_worker_state.specs.Worker.{part_woven, with_at}
 use Rattle.nc_outbox.specs.Outboxes.{next_of}
 use Rattle.nc_scribe.specs.Kinds.{is_aside}
 use Rattle.nc_scribe.specs.Scribe.{ScribeAt, Tells, KeepsOwn}
@@ -45,36 +45,36 @@ module _ {H : Type 0} (held : H → HoldAt) (exact : Bool) (incoming : Incoming)
     fit = o.fit;
     leaves = o.leaves;
     desk = refl;
-    tells = tells_same (sym (append-nil (woven (me_of old) (next_of old.scribe.outboxes) (owned_in o.polls incoming (holding_at slots holds old.owner))))) o.tells;
+    tells = tells_same (sym (append-nil (part_woven (me_of old) (next_of old.scribe.outboxes) (owned_in o.polls incoming (holding_at slots holds old.owner))))) o.tells;
     sound = record { me = o.tells.me ∙ (sound.me ∙ sym o.leaves.me); own = o.own sound.own; kept = sound.kept };
   }
 
   -- the desk did something, and the owner nothing
   pub acts_served : (before : List Event) (r : Served) (desk : DeskAt H) (scribe : ScribeAt H) → Fits (slots (me_of old)) old.owner → StepPollsFit exact incoming (holding_at slots holds old.owner) none_polled
-      → owned_in none_polled incoming (holding_at slots holds old.owner) ≡ unowned (holding_at slots holds old.owner)
+      → owned_in none_polled incoming (holding_at slots holds old.owner) ≡ at_once (unowned (holding_at slots holds old.owner))
       → told_desk desk ≡ r.after → Tells old.scribe scribe (before ++ told (me_of old) (next_of old.scribe.outboxes) r.deeds) → KeepsOwn held old.scribe scribe → KeepsHeld held old.desk desk
       → Acts held exact incoming before r slots slots holds holds old (record old { desk = desk; scribe = scribe })
   acts_served before r desk scribe fits fit none after tells own kept = record {
     polls = none_polled;
     fit = fit;
     leaves = record {
-      owner = ap (λ (o : Owned). o.after.owner) (sym none);
-      row = ap (λ (o : Owned). o.after.row) (sym none);
-      counts = λ x. counts_same holds holds (me_of old) refl ∙ ap (λ (o : Owned). with_at holds (me_of old) o.after.counts) (sym none);
+      owner = ap (λ (o : OwnersPart). o.last.after.owner) (sym none);
+      row = ap (λ (o : OwnersPart). o.last.after.row) (sym none);
+      counts = λ x. counts_same holds holds (me_of old) refl ∙ ap (λ (o : OwnersPart). with_at holds (me_of old) o.last.after.counts) (sym none);
       others = refl;
       fits = fits;
       me = refl;
     };
     desk = after;
     tells = tells_same (ap (λ (l : List Event). l ++ told (me_of old) (next_of old.scribe.outboxes) r.deeds) (sym (append-nil before))
-        ∙ ap (λ (o : Owned). before ++ woven (me_of old) (next_of old.scribe.outboxes) o ++ told (me_of old) (next_after (next_of old.scribe.outboxes) (woven (me_of old) (next_of old.scribe.outboxes) o)) r.deeds) (sym none)) tells;
+        ∙ ap (λ (o : OwnersPart). before ++ part_woven (me_of old) (next_of old.scribe.outboxes) o ++ told (me_of old) (next_after (next_of old.scribe.outboxes) (part_woven (me_of old) (next_of old.scribe.outboxes) o)) r.deeds) (sym none)) tells;
     sound = record { me = tells.me ∙ sound.me; own = own sound.own; kept = kept sound.kept };
   }
 
 module _ {H : Type 0} (held : H → HoldAt) (exact : Bool) (incoming : Incoming) (slots : ℕ → List (Slot Message)) (holds : ℕ → List ℕ) (old : Parts H) (sound : AreSound held old) where
   -- the desk did what an alert asks of it
   pub acts_heard : (r : ℕ → Served) (desk : DeskAt H) (scribe : ScribeAt H) → Fits (slots (me_of old)) old.owner → StepPollsFit exact incoming (holding_at slots holds old.owner) none_polled
-      → owned_in none_polled incoming (holding_at slots holds old.owner) ≡ unowned (holding_at slots holds old.owner)
+      → owned_in none_polled incoming (holding_at slots holds old.owner) ≡ at_once (unowned (holding_at slots holds old.owner))
       → Serves desk old.scribe scribe (r old.scribe.me) → KeepsOwn held old.scribe scribe → KeepsHeld held old.desk desk
       → Acts held exact incoming [] (r (me_of old)) slots slots holds holds old (record old { desk = desk; scribe = scribe })
   acts_heard r desk scribe fits fit none serves own kept =
@@ -84,7 +84,7 @@ module _ {H : Type 0} (held : H → HoldAt) (exact : Bool) (incoming : Incoming)
 
   -- what came was told, and the desk did what that leads to
   pub acts_begun : (setup : Setup) (desk : DeskAt H) (scribe : ScribeAt H) → Fits (slots (me_of old)) old.owner → StepPollsFit exact incoming (holding_at slots holds old.owner) none_polled
-      → owned_in none_polled incoming (holding_at slots holds old.owner) ≡ unowned (holding_at slots holds old.owner)
+      → owned_in none_polled incoming (holding_at slots holds old.owner) ≡ at_once (unowned (holding_at slots holds old.owner))
       → Begins setup incoming old.desk desk old.scribe scribe → KeepsOwn held old.scribe scribe → KeepsHeld held old.desk desk
       → Acts held exact incoming (opening setup (me_of old) incoming (told_desk old.desk)) (begun setup (me_of old) incoming (told_desk old.desk)) slots slots holds holds old (record old { desk = desk; scribe = scribe })
   acts_begun setup desk scribe fits fit none begins own kept =
@@ -136,6 +136,6 @@ module _ {H : Type 0} (held : H → HoldAt) (exact : Bool) (incoming : Incoming)
         fit = a.fit;
         leaves = a.leaves;
         desk = a.desk;
-        tells = tells_same (λ i. (e ∷ []) ++ (woven (me_of old) (next i) o ++ told (me_of old) (next_after (next i) (woven (me_of old) (next i) o)) r.deeds)) (tells_on p a.tells);
+        tells = tells_same (λ i. (e ∷ []) ++ (part_woven (me_of old) (next i) o ++ told (me_of old) (next_after (next i) (part_woven (me_of old) (next i) o)) r.deeds)) (tells_on p a.tells);
         sound = a.sound;
       }

@@ -16,7 +16,7 @@ use Rattle.nc_worker_state.specs.Spooled.{Hold, release, releases, without_idles
 use Rattle.nc_worker_state.specs.Deed.{told, next_after}
 use Rattle.nc_worker_state.specs.Owned.{owned_in}
 use Rattle.nc_worker_state.specs.Desk.{Desk, opening, begun, served}
-use Rattle.nc_worker_state.specs.Worker.{IsHandled, given_back, woven, step_events, with_at}
+use Rattle.nc_worker_state.specs.Worker.{IsHandled, given_back, part_woven, step_events, with_at}
 use Rattle.nc_outbox.specs.Outboxes.{next_of, outbox_of}
 use Rattle.nc_scribe.specs.Scribe.{ScribeAt, Tells, IsOwnScribe, KeepsOwn}
 use Rattle.nc_scribe.specs.Story.{Story}
@@ -69,7 +69,7 @@ module _ {H : Type 0} (held : H → HoldAt) (exact : Bool) (setup : Setup) (inco
   whole mine =
       let me = me_of old in
       let next = next_of old.scribe.outboxes in
-      let w : List Event = woven me next (owned_in acts.polls incoming (holding_at slots holds old.owner)) in
+      let w : List Event = part_woven me next (owned_in acts.polls incoming (holding_at slots holds old.owner)) in
       let front : List Event = opening setup me incoming (told_desk old.desk) ++ w in
       let r = begun setup me incoming (told_desk old.desk) in
       let behind : List Event = told me (next_after next w) r.deeds in
@@ -118,8 +118,8 @@ module _ {H : Type 0} (held : H → HoldAt) (exact : Bool) (setup : Setup) (inco
         holds = λ x.
             back x
             ∙ (ap (λ (f : ℕ → List ℕ). given_back f idle) (acts.leaves.counts x)
-            ∙ (sym (given_none (acted_events me next (opening setup me incoming (told_desk old.desk)) o r) idle (with_at holds me o.after.counts) (acted_unreleased setup me next acts.polls incoming (told_desk old.desk) (holding_at slots holds old.owner)))
-            ∙ ap (given_back (with_at holds me o.after.counts)) same_whole));
+            ∙ (sym (given_none (acted_events me next (opening setup me incoming (told_desk old.desk)) o r) idle (with_at holds me o.last.after.counts) (acted_unreleased setup me next acts.polls incoming (told_desk old.desk) (holding_at slots holds old.owner)))
+            ∙ ap (given_back (with_at holds me o.last.after.counts)) same_whole));
       }
 
   pub others_whole : SameOthers (me_of old) slots new_slots

@@ -1,5 +1,5 @@
 -- What an alert leads to, by its kind.
-use Rattle.std.proofs.Common.{◌≡◌, ℕ, Bool, List, [], Option, None, Some, IfSome, refl, sym, subst}
+use Rattle.std.proofs.Common.{◌≡◌, ℕ, Bool, List, [], Option, None, Some, IfSome, refl, sym, ap, subst}
 use Rattle.nc_types.specs.Message.{Message}
 use Rattle.nc_journal.specs.declared.alert.AlertLine.{AlertLine}
 use Rattle.nc_alert.specs.declared.alert.Alert.{Alert}
@@ -12,11 +12,10 @@ use Rattle.nc_owner.specs.AlertLines.{alert_line, answer_line}
 use Rattle.nc_owner_laws.specs.Fits.{Fits}
 use Rattle.nc_history.specs.Packets.{packet}
 use Rattle.nc_worker_state.specs.Incoming.{TakesPacket}
-use Rattle.nc_worker_state.specs.Owned.{Holding, AskedPolls, owned_by, unowned, no_polls}
+use Rattle.nc_worker_state.specs.Owned.{Holding, AskedPolls, at_once, owned_by, unowned, no_polls}
 use Rattle.nc_worker_state.specs.Desk.{Served, unserved, handled}
 use Rattle.nc_outbox.specs.Outboxes.{IsGranted}
 use Rattle.nc_scribe.specs.Scribe.{ScribeAt, KeepsOwn}
-use Rattle.nc_scribe.proofs.Story.{tells_none}
 use Rattle.nc_desk.specs.Desk.{told_desk, Serves, KeepsHeld}
 use Rattle.nc_desk.specs.declared.desk.Desk.{Desk as DeskAt}
 use Rattle.nc_owned.specs.Owns.{holding_at, Owns}
@@ -57,7 +56,7 @@ module _ {H : Type 0} (held : H → HoldAt) (exact : Bool) (from : ℕ) (slots :
   hears_served desk scribe fits asks serves own kept =
       subst (λ (y : Alert H). Hears held exact from slots slots holds holds old (record old { desk = desk; scribe = scribe }) y) (sym is)
       (λ n. acts_heard held exact (TakesPacket from (packet n (alert_line x))) slots holds old sound (λ me. handled me from (alert_line x) (told_desk old.desk)) desk scribe fits
-      (asks.fit (holding_at slots holds old.owner)) (asks.none (holding_at slots holds old.owner)) serves own kept)
+      (asks.fit (holding_at slots holds old.owner)) (ap at_once (asks.none (holding_at slots holds old.owner))) serves own kept)
 
   -- the same where its spools stay
   pub hears_replied : (desk : DeskAt H) (scribe : ScribeAt H) → Fits (slots (me_of old)) old.owner → AsksNothing exact from (alert_line x)
@@ -65,13 +64,6 @@ module _ {H : Type 0} (held : H → HoldAt) (exact : Bool) (from : ℕ) (slots :
       → Hears held exact from slots slots holds holds old (record old { desk = desk; scribe = scribe }) a
   hears_replied desk scribe fits asks serves own same =
       hears_served desk scribe fits asks serves own (held_same held exact (TakesPacket from (packet 0 (alert_line x))) slots holds old sound desk same)
-
-  -- it leads to nothing
-  pub hears_none : Fits (slots (me_of old)) old.owner → AsksNothing exact from (alert_line x)
-      → handled old.scribe.me from (alert_line x) (told_desk old.desk) ≡ unserved (told_desk old.desk)
-      → Hears held exact from slots slots holds holds old old a
-  hears_none fits asks none =
-      hears_served old.desk old.scribe fits asks (subst (λ (r : Served). Serves old.desk old.scribe old.scribe r) (sym none) (record { after = refl; tells = tells_none old.scribe })) (λ own. own) (λ kept. kept)
 
 -- the hold of an alert of this kind
 pub granted_at : {H : Type 0} (held : H → HoldAt) (from : ℕ) (a x : Alert H) → a ≡ x → IfSome (grant_of a) (IsGranted held from) → IfSome (grant_of x) (IsGranted held from)

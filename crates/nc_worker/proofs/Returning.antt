@@ -17,19 +17,20 @@ use Rattle.nc_owner.specs.Look.{look_events}
 use Rattle.nc_owner.specs.Edge.{edge_events}
 use Rattle.nc_owner.specs.Publish.{Polls}
 use Rattle.nc_owner.specs.Poll.{freed_events}
-use Rattle.nc_owner.specs.OtherSteps.{names_of, touch_events_of}
-use Rattle.nc_reaper.specs.Reap.{Swept, state, swept, swept_all}
+use Rattle.nc_owner.specs.OtherSteps.{names_of}
+use Rattle.nc_reaper.specs.Reap.{Step, Swept, state, sweep_step, swept, swept_all}
 use Rattle.nc_owner_laws.specs.Kinds.{IsOfOwner, AreOfOwner}
-use Rattle.nc_owner_laws.specs.Weave.{weave, makes, numbered}
+use Rattle.nc_owner_laws.specs.Reaping.{steps_woven, next_behind}
+use Rattle.nc_owner_laws.specs.Weave.{weave, makes, numbered, numbered_by}
 use Rattle.nc_owner_laws.proofs.EventKinds.{owners_kinds}
 use Rattle.nc_owner_laws.proofs.Kept.{all_append}
 use Rattle.nc_worker_state.specs.Setup.{Setup}
-use Rattle.nc_worker_state.specs.Incoming.{Incoming, TakesPacket, ClockReads, Reaps, Posts, Subscribes, Informs}
+use Rattle.nc_worker_state.specs.Incoming.{Incoming, TakesPacket, ClockReads, Reaps, Posts, Subscribes, Removes, Informs}
 use Rattle.nc_worker_state.specs.Deed.{Deed, Does, Makes, told, next_after}
 use Rattle.nc_worker_state.specs.Spooled.{found_by, found_in, facts_deeds}
 use Rattle.nc_worker_state.specs.Owned.{Holding, StepPolls, owned_by, owned_in, order_of, member_of}
 use Rattle.nc_worker_state.specs.Desk.{Desk, Served, unserved, is_waiting, without, replied, handled, opening, begun}
-use Rattle.nc_worker_state.specs.Worker.{given_back, woven}
+use Rattle.nc_worker_state.specs.Worker.{given_back, part_woven}
 use Rattle.nc_scribe.specs.Kinds.{IsAside, AreAsideDeeds}
 
 -- an event gives no hold back
@@ -56,10 +57,6 @@ of_owners : (me : ℕ) (es : List Event) → AreOfOwner me es → AreUnreleased 
 of_owners me [] all = tt
 of_owners me (e ∷ es) all = (of_owner me e all.0, of_owners me es all.1)
 
-swept_so : (names : List (List ℕ)) (x : Swept) → AreUnreleased x.events → AreUnreleased (fold swept x names).events
-swept_so [] x all = all
-swept_so (c ∷ names) x all = swept_so names (swept x c) (all_append IsUnreleased x.events (touch_events_of c x.row x.owner) all (of_owners x.owner.desk.me (touch_events_of c x.row x.owner) ((owners_kinds x.row x.owner).touch c)))
-
 line_so : (polls : Polls) (from : ℕ) (line : AlertLine) (s : Holding) → AreUnreleased (owned_by polls from line s).events
 line_so polls from (lines.Publish r c len timeout ct body) s = of_owners s.owner.desk.me _ ((owners_kinds s.row s.owner).publish from (order_of r c len timeout ct body) polls)
 line_so polls from (lines.Look number c after fence) s =
@@ -70,18 +67,9 @@ line_so polls from (lines.Edge number k c fence) s =
     (of_owners s.owner.desk.me _ ((owners_kinds s.row s.owner).raise fence)) (of_owners s.owner.desk.me _ ((owners_kinds s.row (with_floor fence s.owner)).edge from number k c))
 line_so polls from (lines.Join c k) s = of_owners s.owner.desk.me _ ((owners_kinds s.row s.owner).join (member_of from k) c)
 line_so polls from (lines.Part c k) s = of_owners s.owner.desk.me _ ((owners_kinds s.row s.owner).part (member_of from k) c)
+line_so polls from (lines.Delete r c) s = of_owners s.owner.desk.me _ ((owners_kinds s.row s.owner).delete c)
 line_so polls from (lines.Info r c) s = of_owners s.owner.desk.me _ ((owners_kinds s.row s.owner).touch c)
 line_so polls from line s = tt
-
-owned_so : (polls : StepPolls) (incoming : Incoming) (s : Holding) → AreUnreleased (owned_in polls incoming s).events
-owned_so polls (TakesPacket from p) s = line_so polls.publish from p.line s
-owned_so polls (ClockReads t) s = tt
-owned_so polls Reaps s =
-    all_append IsUnreleased (swept_all s.row s.owner).events (freed_events s.owner.desk.me polls.reap)
-    (swept_so (names_of s.owner) (state s.owner s.row []) tt) (of_owners s.owner.desk.me (freed_events s.owner.desk.me polls.reap) ((owners_kinds s.row s.owner).polled polls.reap))
-owned_so polls (Posts c body) s = tt
-owned_so polls (Subscribes k list start) s = tt
-owned_so polls (Informs c) s = tt
 
 makes_so : (me : ℕ) (next : ℕ → ℕ) (alerts : List OutLine) → AreUnreleased (makes me next alerts)
 makes_so me next [] = tt
@@ -92,6 +80,31 @@ weave_so me next [] alerts all = makes_so me next alerts
 weave_so me next (Granted v g slot to ∷ es) [] all = (tt, weave_so me next es [] all.1)
 weave_so me next (Granted v g slot to ∷ es) (a ∷ alerts) all = (tt, (tt, weave_so me (numbered next a.to) es alerts all.1))
 weave_so me next (e ∷ es) alerts all = (all.0, weave_so me next es alerts all.1)
+
+sweeps_so : (names : List (List ℕ)) (x : Swept) → AllByRecursion (λ y. AreUnreleased y.events) x.steps → AllByRecursion (λ y. AreUnreleased y.events) (fold swept x names).steps
+sweeps_so [] x all = all
+sweeps_so (c ∷ names) x all =
+    let one = sweep_step c x.row x.owner in
+    sweeps_so names (swept x c) (all_append (λ y. AreUnreleased y.events) x.steps (one ∷ []) all (of_owners x.owner.desk.me one.events ((owners_kinds x.row x.owner).sweep c), tt))
+
+steps_so : (me : ℕ) (next : ℕ → ℕ) (steps : List Step) → AllByRecursion (λ y. AreUnreleased y.events) steps → AreUnreleased (steps_woven me next steps)
+steps_so me next [] all = tt
+steps_so me next (x ∷ steps) all =
+    let later = numbered_by next x.alerts in
+    all_append IsUnreleased (weave me next x.events x.alerts) (steps_woven me later steps) (weave_so me next x.events x.alerts all.0) (steps_so me later steps all.1)
+
+part_so : (me : ℕ) (next : ℕ → ℕ) (polls : StepPolls) (incoming : Incoming) (s : Holding) → AreUnreleased (part_woven me next (owned_in polls incoming s))
+part_so me next polls (TakesPacket from p) s = let o = owned_by polls.publish from p.line s in weave_so me next o.events o.alerts (line_so polls.publish from p.line s)
+part_so me next polls (ClockReads t) s = tt
+part_so me next polls Reaps s =
+    let sweeps = (swept_all s.row s.owner).steps in
+    let freed = freed_events s.owner.desk.me polls.reap in
+    all_append IsUnreleased (steps_woven me next sweeps) (weave me (next_behind next sweeps) freed [])
+    (steps_so me next sweeps (sweeps_so (names_of s.owner) (state s.owner s.row []) tt)) (weave_so me (next_behind next sweeps) freed [] (of_owners s.owner.desk.me freed ((owners_kinds s.row s.owner).polled polls.reap)))
+part_so me next polls (Posts c body) s = tt
+part_so me next polls (Subscribes k list start) s = tt
+part_so me next polls (Removes c) s = tt
+part_so me next polls (Informs c) s = tt
 
 -- ---- what the desk does
 
@@ -144,6 +157,7 @@ begun_plain setup me (ClockReads t) d = tt
 begun_plain setup me Reaps d = tt
 begun_plain setup me (Posts c body) d = (tt, tt)
 begun_plain setup me (Subscribes k list start) d = facts_plain me Answered (arrive_facts k list start true d.spools)
+begun_plain setup me (Removes c) d = (tt, tt)
 begun_plain setup me (Informs c) d = (tt, tt)
 
 opening_so : (setup : Setup) (me : ℕ) (incoming : Incoming) (d : Desk) → AreUnreleased (opening setup me incoming d)
@@ -152,14 +166,15 @@ opening_so setup me (ClockReads t) d = (tt, tt)
 opening_so setup me Reaps d = tt
 opening_so setup me (Posts c body) d = (tt, tt)
 opening_so setup me (Subscribes k list start) d = (tt, tt)
+opening_so setup me (Removes c) d = (tt, tt)
 opening_so setup me (Informs c) d = (tt, tt)
 
 -- no event of a step up to the releases gives a hold back
 pub acted_unreleased : (setup : Setup) (me : ℕ) (next : ℕ → ℕ) (polls : StepPolls) (incoming : Incoming) (d : Desk) (s : Holding)
-    → AreUnreleased (opening setup me incoming d ++ woven me next (owned_in polls incoming s) ++ told me (next_after next (woven me next (owned_in polls incoming s))) (begun setup me incoming d).deeds)
+    → AreUnreleased (opening setup me incoming d ++ part_woven me next (owned_in polls incoming s) ++ told me (next_after next (part_woven me next (owned_in polls incoming s))) (begun setup me incoming d).deeds)
 acted_unreleased setup me next polls incoming d s =
-    let w = woven me next (owned_in polls incoming s) in
+    let w = part_woven me next (owned_in polls incoming s) in
     let ds = (begun setup me incoming d).deeds in
     all_append IsUnreleased (opening setup me incoming d ++ w) (told me (next_after next w) ds)
-    (all_append IsUnreleased (opening setup me incoming d) w (opening_so setup me incoming d) (weave_so me next (owned_in polls incoming s).events (owned_in polls incoming s).alerts (owned_so polls incoming s)))
+    (all_append IsUnreleased (opening setup me incoming d) w (opening_so setup me incoming d) (part_so me next polls incoming s))
     (told_so me (next_after next w) ds (begun_plain setup me incoming d))

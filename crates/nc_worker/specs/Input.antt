@@ -26,4 +26,5 @@ module _ {H : Type 0} (held : H → HoldAt) (workers me : ℕ) where
   IsInput inputs.Reap = Unit {0}
   IsInput (inputs.Post c body) = Unit {0}
   IsInput (inputs.Poll k list start) = FitsList list start
+  IsInput (inputs.Remove c) = Unit {0}
   IsInput (inputs.Inform c) = Unit {0}

@@ -6,9 +6,9 @@ use Rattle.nc_slots.specs.declared.slot.Slot.{Slot}
 use Rattle.nc_slots.specs.Slots.{HoldAt}
 use Rattle.nc_worker_state.specs.Incoming.{Incoming}
 use Rattle.nc_worker_state.specs.Deed.{told, next_after}
-use Rattle.nc_worker_state.specs.Owned.{Owned, StepPolls, StepPollsFit, owned_in}
+use Rattle.nc_worker_state.specs.Owned.{OwnersPart, StepPolls, StepPollsFit, owned_in}
 use Rattle.nc_worker_state.specs.Desk.{Served}
-use Rattle.nc_worker_state.specs.Worker.{WorkerAt, Seat, woven}
+use Rattle.nc_worker_state.specs.Worker.{WorkerAt, Seat, part_woven}
 use Rattle.nc_outbox.specs.Outboxes.{next_of, outbox_of}
 use Rattle.nc_scribe.specs.Scribe.{Tells, IsOwnScribe}
 use Rattle.nc_desk.specs.Desk.{told_desk, AreHeld}
@@ -34,14 +34,14 @@ pub record AreSound {H : Type 0} (held : H → HoldAt) (p : Parts H) : Type 0 wh
   pub kept : AreHeld held p.desk.spools.kept
 
 -- the events of a step up to the releases: some before, the owner's part, and what the desk did
-abbrev pub acted_events : ℕ → (ℕ → ℕ) → List Event → Owned → Served → List Event
-acted_events me next before o r = before ++ woven me next o ++ told me (next_after next (woven me next o)) r.deeds
+abbrev pub acted_events : ℕ → (ℕ → ℕ) → List Event → OwnersPart → Served → List Event
+acted_events me next before p r = before ++ part_woven me next p ++ told me (next_after next (part_woven me next p)) r.deeds
 
 -- a step up to the releases
 pub record Acts {H : Type 0} (held : H → HoldAt) (exact : Bool) (incoming : Incoming) (before : List Event) (r : Served) (slots new_slots : ℕ → List (Slot Message)) (holds new_holds : ℕ → List ℕ) (old new : Parts H) : Type 0 where
   pub polls : StepPolls
   pub fit : StepPollsFit exact incoming (holding_at slots holds old.owner) polls
-  pub leaves : Leaves exact (owned_in polls incoming (holding_at slots holds old.owner)) slots new_slots holds new_holds old.owner new.owner
+  pub leaves : Leaves exact (owned_in polls incoming (holding_at slots holds old.owner)).last.after slots new_slots holds new_holds old.owner new.owner
   pub desk : told_desk new.desk ≡ r.after
   pub tells : Tells old.scribe new.scribe (acted_events (me_of old) (next_of old.scribe.outboxes) before (owned_in polls incoming (holding_at slots holds old.owner)) r)
   pub sound : AreSound held new

@@ -24,7 +24,7 @@ use nc_alert::{Alert, Packet};
 use nc_desk::release_idle;
 use nc_journal::{Event, EventList};
 use nc_outbox::kind_of;
-use nc_owned::{edge, inform, join, look, part, publish, sweep};
+use nc_owned::{delete, edge, inform, join, look, part, publish, sweep};
 use nc_owner::Order;
 use nc_slots::Slots;
 use nc_types::{Config, NoMemory};
@@ -103,6 +103,10 @@ fn hear<P: Slots>(
             part(&mut parts.owner, pool, &mut parts.scribe, from, c, k)?;
             Ok(())
         }
+        Alert::Delete { r, c } => {
+            delete(&mut parts.owner, pool, &mut parts.scribe, from, r, c)?;
+            Ok(())
+        }
         Alert::Info { r, c } => {
             inform(&mut parts.owner, pool, &mut parts.scribe, from, r, c)?;
             Ok(())
@@ -147,7 +151,6 @@ fn hear<P: Slots>(
             parts.desk.gone(&mut parts.scribe, &c, &subs)?;
             Ok(())
         }
-        Alert::Delete { .. } => Ok(()),
     }
 }
 
@@ -221,6 +224,10 @@ fn begin<P: Slots>(
             parts
                 .desk
                 .subscribe(alloc, &mut parts.scribe, conf, k, list, start)?;
+            Ok(())
+        }
+        Input::Remove { chan } => {
+            parts.desk.remove(alloc, &mut parts.scribe, conf, chan)?;
             Ok(())
         }
         Input::Inform { chan } => {

@@ -1,6 +1,6 @@
 use Rattle.std.proofs.Common.{refl}
 use Rattle.nc_worker_state.specs.Setup.{setup_of}
-use Rattle.nc_worker_state.specs.Incoming.{Reaps, Posts, Subscribes, Informs}
+use Rattle.nc_worker_state.specs.Incoming.{Reaps, Posts, Subscribes, Removes, Informs}
 use Rattle.nc_worker.proofs.Acting.{acts_owned, acts_begun, acts_clocked, held_same}
 use Rattle.nc_worker.proofs.step.begin.Goals as goal
 
@@ -38,6 +38,18 @@ returns-in_ok-subscribe-in-Poll g c = λ first.
     let by = c.in_ok-subscribe-in-Poll.ensures in
     rw c.in-Poll.is (acts_begun held g.P.Slots.exact incoming (g.P.Slots.slots c.args.pool.now) (g.P.Slots.holds c.args.pool.now) c.args.parts.now c.requires.sound (setup_of c.args.conf.now first) c.subscribe.new.self c.subscribe.new.scribe
     c.requires.fits tt refl (by.begins first) (by.own held) (by.held held))
+
+pub returns-in_ok-remove-in-Remove : goal.returns-in_ok-remove-in-Remove
+returns-in_ok-remove-in-Remove g c = λ first.
+    let held = g.P.Slots.held in
+    let exact = g.P.Slots.exact in
+    let incoming = Removes c.in-Remove.chan in
+    let slots = g.P.Slots.slots c.args.pool.now in
+    let holds = g.P.Slots.holds c.args.pool.now in
+    let old = c.args.parts.now in
+    let by = c.in_ok-remove-in-Remove.ensures in
+    rw c.in-Remove.is (acts_begun held exact incoming slots holds old c.requires.sound (setup_of c.args.conf.now first) c.remove.new.self c.remove.new.scribe c.requires.fits tt refl (by.begins first) (by.own held)
+    (held_same held exact incoming slots holds old c.requires.sound c.remove.new.self by.spools))
 
 pub returns-in_ok-inform-in-Inform : goal.returns-in_ok-inform-in-Inform
 returns-in_ok-inform-in-Inform g c = λ first.
