@@ -1,1 +1,1 @@
-mod Loads
+pub mod Loads

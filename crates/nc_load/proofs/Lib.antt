@@ -1,1 +1,2 @@
 mod Text
+mod Short

@@ -1,5 +1,5 @@
 //! The script of a seed and a size.
-ghost use Rattle.std.specs.Prelude.{◌≡◌, ◌++◌, ◌+◌, ◌∷◌, [], ◌<◌, ◌^◌, OnOk, IfOk};
+ghost use Rattle.std.specs.Prelude.{◌≡◌, ◌++◌, ◌+◌, ◌∷◌, [], ◌<◌, ◌≤◌, ◌^◌, length, OnOk, IfOk};
 ghost use Rattle.nc_load.specs.Line.{clock_line, line};
 ghost use Rattle.nc_load.specs.Script.{configuration, rule_line, front, settle_line, settled_after, settled_at_end, ended, text_of, script};
 
@@ -80,8 +80,11 @@ fn put_drawn(out: &mut Vec<u8>, draw: Draw, i: u32) -> Result<(), NoMemory>
 }
 
 /// The script of a seed and a size: its configuration, its clocks, and as many drawn lines as the size says.
+///
+/// Up to the greatest size of a load it has at most as many bytes as a replay takes.
 pub fn make_script(alloc: Global, seed: u64, size: u32) -> Result<Bytes, NoMemory>
-    ensures { IfOk result (λ text. text ≡ script seed size) }
+    ensures text { IfOk result (λ text. text ≡ script seed size) }
+    ensures few { IfOk result (λ text. size ≤ 65535 → length text ≤ 67108864) }
 {
     let mut out = Vec::new(alloc);
     put_front(&mut out)?;

@@ -1,12 +1,18 @@
 -- What the status has to be for the text of the input, and that the words are one command.
-use Rattle.std.proofs.Common.{◌≡◌, ◌⊎◌, inl, inr, ℕ, ◌<◌, List, length, refl, sym, subst, ap, arith, Option, Some, None}
+use Rattle.std.proofs.Common.{◌≡◌, ◌⊎◌, inl, inr, ℕ, ◌<◌, ◌≤◌, List, length, refl, sym, subst, ap, arith, Option, Some, None}
 use Rattle.std.specs.Prelude.{IfSome}
 use Rattle.nc_replay.specs.declared.command.Task.{Task}
-use Rattle.nc_replay.specs.declared.command.Task.TheVariants.{Replay, Check, Usage}
+use Rattle.nc_replay.specs.declared.command.Task.TheVariants.{Replay, Check, Load, Usage}
+use Rattle.nc_cli.specs.Words.{IsCommand, IsLoad}
+use Rattle.nc_cli.specs.declared.Command.{Command}
+use Rattle.nc_cli.specs.declared.Command.TheVariants as commands
+use Rattle.nc_cli.proofs.Loads.{one-command}
 use Rattle.nc_conf.specs.Answer.{NeverBoth}
 use Rattle.nc_outside.specs.Pieces.{GivesMore}
 use Rattle.nc_outside.proofs.Pieces.{gives_once, gives_all_once, never_goes_on}
 use Rattle.nc_replay.specs.Script.{IsMisconfigured, IsFaulty}
+use Rattle.nc_load.specs.Script.{script}
+use Rattle.nc_replay.specs.Load.{LoadEnds}
 use Rattle.nc_replay.specs.Sure.{IsNeverBoth, NeverFails, NeverWears, FailsOrWears}
 use Rattle.nc_replay.specs.Input.{longest_input, ReadsAll, ReadsUpTo, ReadsSome}
 use Rattle.nc_replay.specs.Top.{IsReplay, IsCheck, IsRun, IsTask, IsStatus, IsStopped, IsUnread, Passes, Fails, Wears, RefusedBy, WornBy, PassedBy, MisconfiguredBy, RejectedBy, OfAllInput, MustBeShort, Replays, Refuses, WearsOut, Misconfigures, Accepts}
@@ -147,6 +153,16 @@ pub rejected-always : NeverBoth → (n : ℕ) (left rest : Option (List ℕ)) (b
 rejected-always both n left rest before behind old new status accepted usage refused worn =
     of_all (RejectedBy n) left rest before behind (rejected-of both n left rest before behind old new status accepted usage refused worn)
 
+-- where all lines of a load's script are made, it is counted, or the work stopped
+pub load-always : EndsOnce → (n seed size : ℕ) (old new : List ℕ) → IsStatus n → LoadEnds n seed size old new → PassedBy 0 n (script seed size)
+load-always once n seed size old new status ends h passes =
+    by_status n (n ≡ 0) status
+    (λ zero. inl zero)
+    ends.command
+    (λ three. let bad = ends.refused three in absurd (once.fails 0 0 (script seed size) h bad.0 bad.1 passes bad.2))
+    (λ eight. let bad = ends.misconfigured eight in absurd (once.both (script seed size) passes.before _ passes.config bad.0.rule bad.0.at passes.configured bad.1))
+    (λ nine. let bad = ends.worn nine in absurd (once.wears 0 (script seed size) h bad.0 passes bad.1))
+
 -- a whole input isn't too long
 told-short : (n : ℕ) (left rest : Option (List ℕ)) (before behind : List (List ℕ)) → IsUnread n ⊎ ReadsSome left rest before behind → IfSome left (λ bytes. longest_input < length bytes → IsUnread n)
 told-short n None rest before behind whole = tt
@@ -169,21 +185,68 @@ must-be-short n left rest before behind whole unread = (told-short n left rest b
 replay-not-check : (words : List (List ℕ)) → IsReplay words → IsCheck words → ⊥
 replay-not-check words replay check = absurd (cc)
 
-pub not-replay : (words : List (List ℕ)) → IsCheck words → IsReplay words → ⊥
-not-replay words check replay = replay-not-check words replay check
+replay-no-load : (words : List (List ℕ)) (seed size : ℕ) → IsLoad words seed size → IsReplay words → ⊥
+replay-no-load words seed size is replay = let three = is.three in absurd (cc)
+
+check-no-load : (words : List (List ℕ)) (seed size : ℕ) → IsLoad words seed size → IsCheck words → ⊥
+check-no-load words seed size is check = let three = is.three in absurd (cc)
 
 pub is_replay : (words : List (List ℕ)) (command : Task) → IsTask words command → IsReplay words → command ≡ Replay
 is_replay words Replay read is = refl
 is_replay words Check read is = absurd (replay-not-check words is read)
+is_replay words (Load seed size) read is = absurd (replay-no-load words seed size read is)
 is_replay words Usage read is = absurd (read (inl is))
 
 pub is_check : (words : List (List ℕ)) (command : Task) → IsTask words command → IsCheck words → command ≡ Check
 is_check words Replay read is = absurd (replay-not-check words read is)
 is_check words Check read is = refl
-is_check words Usage read is = absurd (read (inr is))
+is_check words (Load seed size) read is = absurd (check-no-load words seed size read is)
+is_check words Usage read is = absurd (read (inr (inl is)))
 
-pub as_replay : (words : List (List ℕ)) (command : Task) → IsTask words command → command ≡ Replay → IsReplay words
-as_replay words command read is = subst (λ (k : Task). IsTask words k) is read
+pub is_run : (words : List (List ℕ)) (command : Task) → IsTask words command → IsRun words → (command ≡ Replay) ⊎ (command ≡ Check)
+is_run words command read (inl is) = inl (is_replay words command read is)
+is_run words command read (inr is) = inr (is_check words command read is)
 
-pub as_usage : (words : List (List ℕ)) (command : Task) → IsTask words command → command ≡ Usage → IsRun words → ⊥
+-- where they don't read the input, they are a load or no command
+pub untouched_by : (words : List (List ℕ)) (command : Task) (P : Type 0) → IsTask words command → (command ≡ Usage → P) → ((seed size : ℕ) → command ≡ Load seed size → P) → (IsRun words → ⊥) → P
+untouched_by words Replay P read usage load none = absurd (none (inl read))
+untouched_by words Check P read usage load none = absurd (none (inr read))
+untouched_by words (Load seed size) P read usage load none = load seed size refl
+untouched_by words Usage P read usage load none = usage refl
+
+pub is_usage : (words : List (List ℕ)) (command : Task) → IsTask words command → (IsCommand words → ⊥) → command ≡ Usage
+is_usage words Replay read none = absurd (none (inl read))
+is_usage words Check read none = absurd (none (inr (inl read)))
+is_usage words (Load seed size) read none = absurd (none (inr (inr (seed, size, read))))
+is_usage words Usage read none = refl
+
+-- the words of a load are read as it
+abbrev as_task : Command → Task
+as_task commands.Replay = Replay
+as_task commands.Check = Check
+as_task (commands.Load seed size) = Load seed size
+as_task commands.Usage = Usage
+
+pub is_load : (words : List (List ℕ)) (command : Task) (seed size : ℕ) → IsTask words command → IsLoad words seed size → command ≡ Load seed size
+is_load words Replay seed size read is = absurd (replay-no-load words seed size is read)
+is_load words Check seed size read is = absurd (check-no-load words seed size is read)
+is_load words (Load a b) seed size read is = ap as_task (one-command words (commands.Load a b) (commands.Load seed size) read is)
+is_load words Usage seed size read is = absurd (read (inr (inr (seed, size, is))))
+
+-- a load has one seed and one size
+abbrev seed_of : Task → ℕ
+seed_of (Load seed size) = seed
+seed_of command = 0
+
+abbrev size_of : Task → ℕ
+size_of (Load seed size) = size
+size_of command = 0
+
+pub same-load : (n s z seed size : ℕ) (old new : List ℕ) → Load s z ≡ Load seed size → LoadEnds n s z old new → LoadEnds n seed size old new
+same-load n s z seed size old new is ends = subst (λ (k : ℕ). LoadEnds n k size old new) (ap seed_of is) (subst (λ (k : ℕ). LoadEnds n s k old new) (ap size_of is) ends)
+
+pub few_load : (words : List (List ℕ)) (command : Task) → IsTask words command → (seed size : ℕ) → command ≡ Load seed size → size ≤ 65535
+few_load words command read seed size is = (subst (λ (k : Task). IsTask words k) is read).few
+
+pub as_usage : (words : List (List ℕ)) (command : Task) → IsTask words command → command ≡ Usage → IsCommand words → ⊥
 as_usage words command read is = subst (λ (k : Task). IsTask words k) is read

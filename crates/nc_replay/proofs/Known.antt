@@ -3,7 +3,7 @@ use Rattle.std.proofs.Common.{◌≡◌, ℕ, Bool, List, [], ◌∷◌, refl, s
 use Rattle.std.specs.Prelude.{◌||◌}
 use Rattle.nc_history.specs.Steps.{joined}
 use Rattle.nc_worker_state.specs.Setup.{Setup}
-use Rattle.nc_world.specs.Lines.{Line, Blank, Clocks, Reap, Carry, Take, Settle, Post, Poll, Inform, lines_world, journal_of}
+use Rattle.nc_world.specs.Lines.{Line, Blank, Clocks, Reap, Carry, Take, Settle, Post, Poll, Remove, Inform, lines_world, journal_of}
 use Rattle.nc_world.specs.Reached.{IsSetup}
 use Rattle.nc_world_follows.specs.Fitting.{AreFit}
 use Rattle.nc_world_follows.specs.Laws.{FitLinesReach}
@@ -25,6 +25,7 @@ brings-is (Take x v) w k = refl
 brings-is (Settle n) w k = refl
 brings-is (Post x c body) w k = refl
 brings-is (Poll x n list start) w k = refl
+brings-is (Remove x c) w k = refl
 brings-is (Inform x c) w k = refl
 
 module _ (reach : FitLinesReach) (setup : Setup) (is : IsSetup setup) where

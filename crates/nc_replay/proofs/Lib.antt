@@ -8,4 +8,5 @@ pub mod Ends
 mod Verdicts
 mod OneFront
 mod OneEnd
-mod Always
+pub mod Always
+pub mod Loads

@@ -33,6 +33,7 @@ can-make workers (said.Poll w k names start) keeps =
 can-make workers (said.Carry w to) keeps = keeps
 can-make workers (said.Take w from) keeps = keeps
 can-make workers (said.Settle n) keeps = tt
+can-make workers (said.Remove w c) keeps = keeps
 can-make workers (said.Inform w c) keeps = keeps
 
 -- ---- used numbers
@@ -58,6 +59,7 @@ is-new was lines (said.Poll w k names start) are none = sym (are w k) ∙ none-b
 is-new was lines (said.Carry w to) are none = tt
 is-new was lines (said.Take w from) are none = tt
 is-new was lines (said.Settle n) are none = tt
+is-new was lines (said.Remove w c) are none = tt
 is-new was lines (said.Inform w c) are none = tt
 
 no-rule : (rule : ℕ) → None ≡ Some rule → ⊥
@@ -79,6 +81,7 @@ is-old was workers text lines (said.Poll w k names start) rule are some =
 is-old was workers text lines (said.Carry w to) rule are some = absurd (no-rule rule some)
 is-old was workers text lines (said.Take w from) rule are some = absurd (no-rule rule some)
 is-old was workers text lines (said.Settle n) rule are some = absurd (no-rule rule some)
+is-old was workers text lines (said.Remove w c) rule are some = absurd (no-rule rule some)
 is-old was workers text lines (said.Inform w c) rule are some = absurd (no-rule rule some)
 
 -- it is read as a poll, and the rule is the tenth
@@ -91,6 +94,7 @@ is-poll was workers text (said.Poll w k names start) rule says some = (record { 
 is-poll was workers text (said.Carry w to) rule says some = absurd (no-rule rule some)
 is-poll was workers text (said.Take w from) rule says some = absurd (no-rule rule some)
 is-poll was workers text (said.Settle n) rule says some = absurd (no-rule rule some)
+is-poll was workers text (said.Remove w c) rule says some = absurd (no-rule rule some)
 is-poll was workers text (said.Inform w c) rule says some = absurd (no-rule rule some)
 
 -- ---- faults

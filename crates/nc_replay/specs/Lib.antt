@@ -5,4 +5,5 @@ pub mod Input
 pub mod Run
 pub mod Turns
 pub mod Top
+pub mod Load
 pub mod Sure

@@ -3,6 +3,7 @@ use Rattle.std.specs.Prelude.{◌≡◌, ◌⊎◌, ℕ, ◌+◌, ◌<◌, List,
 use Rattle.std.specs.Fmt.{decimal}
 use Rattle.nc_types.specs.Config.{ConfigAt}
 use Rattle.nc_outside.specs.Pieces.{GivesAll, GivesMore}
+use Rattle.nc_cli.specs.Words.{IsLoad, IsCommand}
 use Rattle.nc_conf.specs.Reading.{HasConfig}
 use Rattle.nc_journal.specs.declared.event.Event.{Event}
 use Rattle.nc_journal.specs.Text.{text_of}
@@ -12,7 +13,7 @@ use Rattle.nc_replay.specs.declared.fault.Misconfigured.{Misconfigured as Config
 use Rattle.nc_replay.specs.declared.command.End.{End}
 use Rattle.nc_replay.specs.declared.command.End.TheVariants.{Passed, Refused, Misconfigured, WornOut}
 use Rattle.nc_replay.specs.declared.command.Task.{Task}
-use Rattle.nc_replay.specs.declared.command.Task.TheVariants.{Replay, Check, Usage}
+use Rattle.nc_replay.specs.declared.command.Task.TheVariants.{Replay, Check, Load, Usage}
 use Rattle.nc_replay.specs.declared.check.Verdict.{Verdict}
 use Rattle.nc_replay.specs.declared.check.Verdict.TheVariants.{Accepted, Rejected}
 use Rattle.nc_replay.specs.Script.{IsConfigured, IsFaulty, IsMisconfigured}
@@ -27,15 +28,16 @@ IsReplay words = words ≡ codes "replay" ∷ []
 abbrev pub IsCheck : List (List ℕ) → Type 0
 IsCheck words = words ≡ codes "check" ∷ []
 
--- the words are a command that the top call runs
+-- the words are a command that reads the input
 abbrev pub IsRun : List (List ℕ) → Type 0
 IsRun words = IsReplay words ⊎ IsCheck words
 
--- what the top call does for some words; it writes the usage where it runs nothing
+-- what the top call does for some words; it writes the usage where they are no command
 abbrev pub IsTask : List (List ℕ) → Task → Type 0
 IsTask words Replay = IsReplay words
 IsTask words Check = IsCheck words
-IsTask words Usage = IsRun words → ⊥
+IsTask words (Load seed size) = IsLoad words seed size
+IsTask words Usage = IsCommand words → ⊥
 
 -- all lines of a script are made, as its configuration sets, and this is their history
 pub record Passes (first : ℕ) (script : List ℕ) (h : List Event) : Type 0 where

@@ -16,7 +16,7 @@ use nc_types::{Config, NoMemory};
 use std::alloc::Global;
 
 /// A label and a number go behind a text.
-fn put_field(text: &mut Vec<u8>, label: &[u8], n: u64) -> Result<(), NoMemory>
+pub fn put_field(text: &mut Vec<u8>, label: &[u8], n: u64) -> Result<(), NoMemory>
     ensures { OnOk result (text.new.items ≡ text.old.items ++ label.now ++ decimal n) }
 {
     text.extend_from_slice(label)?;

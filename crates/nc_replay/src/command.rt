@@ -2,11 +2,13 @@
 //!
 //! `main` makes the real ones and calls it. Below stand the reading of the input, the plan of a script, the replay of its
 //! lines, and the check of a configuration.
-ghost use Rattle.std.specs.Prelude.{◌≡◌, ◌≢◌, ◌≤◌, ◌⊎◌, ◌+◌, length, map, string_bytes, IfOk, IfErr, OnOk, OnErr};
+ghost use Rattle.std.specs.Prelude.{◌≡◌, ◌≢◌, ◌≤◌, ◌⊎◌, ◌+◌, ℕ, length, map, string_bytes, IfOk, IfErr, OnOk, OnErr};
 ghost use Rattle.nc_outside.specs.Fault.{HasRisen};
-ghost use Rattle.nc_cli.specs.Words.{usage_text};
-ghost use Rattle.nc_replay.specs.declared.command.Task.TheVariants.{Replay, Check, Usage};
+ghost use Rattle.nc_cli.specs.Words.{IsCommand, IsLoad, usage_text};
+ghost use Rattle.nc_replay.specs.declared.command.Task.TheVariants.{Replay, Check, Load, Usage};
 ghost use Rattle.nc_replay.specs.Input.{longest_input, ReadsUpTo, ReadsTooMuch, ReadsSome, HasStopped, IsCalm, Adds, AddsPrefix};
+ghost use Rattle.nc_replay.specs.Load.{LoadEnds};
+ghost use Rattle.nc_load.specs.Script.{script as load_script};
 ghost use Rattle.nc_replay.specs.Top.{IsReplay, IsCheck, IsRun, IsTask, Replays, Refuses, WearsOut, Misconfigures, Accepts, Rejects, CutsOff, CutsOffCheck};
 ghost use Rattle.nc_replay.specs.Top.{EndsAs, CutsOffSome, IsStatus, IsUnread, OfAllInput, PassedBy, RefusedBy, WornBy, MisconfiguredBy, RejectedBy, MustBeShort};
 
@@ -14,6 +16,7 @@ use crate::answer::{write_fault, write_misconfigured};
 use crate::check::check;
 use crate::input::{ReadFault, read_all, write_all};
 use crate::laws::{one_configuration, one_end};
+use crate::load::load;
 use crate::making::{Ending, Stop, replay_lines};
 use crate::plan::{PlanFault, plan_of};
 use nc_cli::{Command, read_words, usage};
@@ -24,7 +27,7 @@ use std::alloc::Global;
 
 /// How the replay of a script that could be written ends.
 #[derive(Clone, Copy, Debug, PartialEq, Eq)]
-enum End {
+pub enum End {
     /// Every line was made.
     Passed,
     /// A line broke a rule.
@@ -36,7 +39,7 @@ enum End {
 }
 
 /// Replays a script and writes its fault, if it has one. The numbers that workers draw begin with `first`.
-fn replay_text<W: Hand, K: Sink>(
+pub fn replay_text<W: Hand, K: Sink>(
     alloc: Global,
     first: u64,
     script: &[u8],
@@ -121,11 +124,12 @@ pub fn replay<S: Source, K: Sink>(alloc: Global, first: u64, input: &mut S, out:
     }
 }
 
-/// What the top call does for some words. It makes no load: the usage is for those words too.
+/// What the top call does for some words.
 #[derive(Clone, Copy, Debug, PartialEq, Eq)]
 enum Task {
     Replay,
     Check,
+    Load { seed: u64, size: u32 },
     Usage,
 }
 
@@ -135,12 +139,14 @@ fn task_of(words: &[String]) -> Task
     match read_words(words) {
         Command::Replay => Task::Replay,
         Command::Check => Task::Check,
-        Command::Load { .. } | Command::Usage => Task::Usage,
+        Command::Load { seed, size } => Task::Load { seed, size },
+        Command::Usage => Task::Usage,
     }
 }
 
 /// Runs a command, and gives the exit status.
 fn run<S: Source, K: Sink>(alloc: Global, command: Task, input: &mut S, out: &mut K) -> u8
+    requires few { (seed size : ℕ) → command ≡ Load seed size → size ≤ 65535 }
     ensures status { IsStatus result }
     ensures passed { command ≡ Replay → result ≡ 0
         → Replays 0 (S.left input.old) (S.left input.new) (S.given input.old) (S.given input.new)
@@ -151,12 +157,15 @@ fn run<S: Source, K: Sink>(alloc: Global, command: Task, input: &mut S, out: &mu
     ensures usage { result ≡ 2 → (command ≡ Usage) × Adds usage_text (K.taken out.old) (K.taken out.new) }
     ensures usage_always { command ≡ Usage → (result ≡ 2) ⊎ (result ≡ 5) }
     ensures untouched { command ≡ Usage → input.new ≡ input.old }
-    ensures refused { result ≡ 3 → (command ≡ Replay) ×
-        Refuses 0 (S.left input.old) (S.left input.new) (S.given input.old) (S.given input.new)
+    ensures loaded { (seed size : ℕ) → command ≡ Load seed size
+        → (input.new ≡ input.old) × LoadEnds result seed size (K.taken out.old) (K.taken out.new) }
+    ensures refused { command ≡ Replay → result ≡ 3
+        → Refuses 0 (S.left input.old) (S.left input.new) (S.given input.old) (S.given input.new)
         (K.taken out.old) (K.taken out.new) }
-    ensures worn { result ≡ 9 → (command ≡ Replay) ×
-        WearsOut 0 (S.left input.old) (S.left input.new) (S.given input.old) (S.given input.new)
+    ensures worn { command ≡ Replay → result ≡ 9
+        → WearsOut 0 (S.left input.old) (S.left input.new) (S.given input.old) (S.given input.new)
         (K.taken out.old) (K.taken out.new) }
+    ensures unrefused { command ≡ Check → (result ≢ 3) × (result ≢ 9) }
     ensures misconfigured { command ≡ Replay → result ≡ 8
         → Misconfigures (S.left input.old) (S.left input.new) (S.given input.old) (S.given input.new)
         (K.taken out.old) (K.taken out.new) }
@@ -182,16 +191,17 @@ fn run<S: Source, K: Sink>(alloc: Global, command: Task, input: &mut S, out: &mu
         (K.taken out.old) (K.taken out.new)) }
     ensures too_long { result ≡ 7 → ReadsTooMuch
         (S.left input.old) (S.left input.new) (S.given input.old) (S.given input.new) }
-    ensures reads { command ≢ Usage
+    ensures reads { (command ≡ Replay) ⊎ (command ≡ Check)
         → ReadsUpTo (longest_input + 1) (S.left input.old) (S.left input.new) (S.given input.old) (S.given input.new)
         ⊎ ReadsSome (S.left input.old) (S.left input.new) (S.given input.old) (S.given input.new) }
-    ensures whole { command ≢ Usage → IsUnread result
+    ensures whole { (command ≡ Replay) ⊎ (command ≡ Check) → IsUnread result
         ⊎ ReadsSome (S.left input.old) (S.left input.new) (S.given input.old) (S.given input.new) }
     ensures silent { (result ≡ 4) ⊎ (result ≡ 7) → K.taken out.new ≡ K.taken out.old }
 {
     match command {
         Task::Replay => replay(alloc, 0, input, out),
         Task::Check => check(alloc, input, out),
+        Task::Load { seed, size } => load(alloc, seed, size, out),
         Task::Usage => match write_all(out, usage()) {
             Ok(()) => 2,
             Err(_) => 5,
@@ -201,10 +211,11 @@ fn run<S: Source, K: Sink>(alloc: Global, command: Task, input: &mut S, out: &mu
 
 /// Runs the command that the words are, and gives the exit status (docs/JOURNAL.md).
 ///
-/// Both commands read the whole input first, at most 67,108,864 bytes.
-/// `replay` writes the journal of a script's lines, and `check` says whether a configuration is accepted:
+/// `replay` and `check` read the whole input first, at most 67,108,864 bytes, and `load` reads nothing.
+/// `replay` writes the journal of a script's lines, `check` says whether a configuration is accepted, and `load` counts
+/// lines of the journal of a script that is made from two numbers (docs/LOAD.md):
 /// - 0: every line was made, or the configuration is accepted and `ok workers=N locations=M` was written;
-/// - 2: the words are neither, and the usage was written;
+/// - 2: the words are no command, and the usage was written;
 /// - 3: a line breaks a rule, and `fault line=L rule=R at=P` stands behind the journal of those before it;
 /// - 4: the source failed; 5: the sink failed or took nothing; 6: there was no memory; 7: the input is longer;
 /// - 8: the configuration is refused, and `config rule=R at=P` was written;
@@ -222,21 +233,28 @@ pub fn top<S: Source, K: Sink>(alloc: Global, words: &[String], input: &mut S, o
         → Accepts (S.left input.old) (S.left input.new) (S.given input.old) (S.given input.new)
         (K.taken out.old) (K.taken out.new) }
 
-    // 2 comes exactly where the words are neither command, but where the usage can't be written; the input isn't touched.
-    ensures usage { result ≡ 2 → (IsRun (map string_bytes words.now) → ⊥) × Adds usage_text (K.taken out.old) (K.taken out.new) }
-    ensures usage_always { (IsRun (map string_bytes words.now) → ⊥) → (result ≡ 2) ⊎ (result ≡ 5) }
+    // 2 comes exactly where the words are no command, but where the usage can't be written; the input isn't touched then, nor by a load.
+    ensures usage { result ≡ 2 → (IsCommand (map string_bytes words.now) → ⊥) × Adds usage_text (K.taken out.old) (K.taken out.new) }
+    ensures usage_always { (IsCommand (map string_bytes words.now) → ⊥) → (result ≡ 2) ⊎ (result ≡ 5) }
     ensures untouched { (IsRun (map string_bytes words.now) → ⊥) → input.new ≡ input.old }
 
+    // A load is of the script that its numbers make, and tells how many lines of some kinds its journal has.
+    ensures loaded { (seed size : ℕ) → IsLoad (map string_bytes words.now) seed size
+        → LoadEnds result seed size (K.taken out.old) (K.taken out.new) }
+    ensures loaded_always { (seed size : ℕ) → IsLoad (map string_bytes words.now) seed size
+        → PassedBy 0 result (load_script seed size) }
+
     // 3 comes exactly at the first line of a script that breaks a rule, but where the work stopped.
-    ensures refused { result ≡ 3 → IsReplay (map string_bytes words.now) ×
-        Refuses 0 (S.left input.old) (S.left input.new) (S.given input.old) (S.given input.new)
+    ensures refused { IsReplay (map string_bytes words.now) → result ≡ 3
+        → Refuses 0 (S.left input.old) (S.left input.new) (S.given input.old) (S.given input.new)
         (K.taken out.old) (K.taken out.new) }
+    ensures unrefused { IsCheck (map string_bytes words.now) → (result ≢ 3) × (result ≢ 9) }
     ensures refused_always { IsReplay (map string_bytes words.now)
         → OfAllInput (RefusedBy 0 result) (S.left input.old) (S.given input.old) (S.given input.new) }
 
     // 9 comes exactly at the first line that would call on a worn worker, but where the work stopped.
-    ensures worn { result ≡ 9 → IsReplay (map string_bytes words.now) ×
-        WearsOut 0 (S.left input.old) (S.left input.new) (S.given input.old) (S.given input.new)
+    ensures worn { IsReplay (map string_bytes words.now) → result ≡ 9
+        → WearsOut 0 (S.left input.old) (S.left input.new) (S.given input.old) (S.given input.new)
         (K.taken out.old) (K.taken out.new) }
     ensures worn_always { IsReplay (map string_bytes words.now)
         → OfAllInput (WornBy 0 result) (S.left input.old) (S.given input.old) (S.given input.new) }
@@ -269,7 +287,7 @@ pub fn top<S: Source, K: Sink>(alloc: Global, words: &[String], input: &mut S, o
     ensures check_cut_off { IsCheck (map string_bytes words.now) → result ≡ 5
         → CutsOffCheck (S.left input.old) (S.left input.new) (S.given input.old) (S.given input.new)
         (K.taken out.old) (K.taken out.new) }
-    ensures usage_cut_off { (IsRun (map string_bytes words.now) → ⊥) → result ≡ 5
+    ensures usage_cut_off { (IsCommand (map string_bytes words.now) → ⊥) → result ≡ 5
         → AddsPrefix usage_text (K.taken out.old) (K.taken out.new) }
 
     // 6 leaves nothing, or a prefix of the text of a lawful journal.

@@ -10,6 +10,7 @@ mod command;
 mod fault;
 mod input;
 mod laws;
+mod load;
 mod making;
 mod plan;
 mod script;

@@ -10,6 +10,7 @@ use Rattle.nc_replay.specs.declared.fault.Fault.{Fault}
 use Rattle.nc_replay.specs.declared.fault.Misconfigured.{Misconfigured as ConfigFault}
 use Rattle.nc_replay.specs.Input.{longest_input, AddsPrefix}
 use Rattle.nc_replay.specs.Script.{IsFaulty, IsMisconfigured}
+use Rattle.nc_replay.specs.Load.{LoadEnds}
 use Rattle.nc_replay.specs.Top.{Passes, Fails, Wears, fault_text, misconfigured_text, accepted_text, CutsOffSome, CutsOffVerdict}
 
 -- a script was given to its end; all its lines were made, and the text of their history was taken and nothing else: it is lawful and follows them
@@ -19,6 +20,11 @@ pub record Replayed (given : List (List ℕ)) (taken : List ℕ) : Type 0 where
   pub h : List Event
   pub passes : Passes 0 script h
   pub written : taken ≡ text_of h
+
+-- nothing was given, and the script of a seed and a size came to what this status says
+pub record Loaded (status seed size : ℕ) (given : List (List ℕ)) (taken : List ℕ) : Type 0 where
+  pub unread : given ≡ []
+  pub ends : LoadEnds status seed size [] taken
 
 -- a script was given to its end, a line of which breaks a rule; the text of the lawful history of those before it was taken,
 -- and that fault

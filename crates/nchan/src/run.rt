@@ -1,11 +1,13 @@
 //! One run of the program, over a source that gave nothing yet and a sink that took nothing yet.
-ghost use Rattle.std.specs.Prelude.{◌≡◌, ◌≢◌, ◌⊎◌, [], map, string_bytes};
+ghost use Rattle.std.specs.Prelude.{◌≡◌, ◌≢◌, ◌⊎◌, ℕ, [], map, string_bytes};
 ghost use Rattle.nc_outside.specs.Fault.{HasRisen};
 ghost use Rattle.nc_outside.specs.Pieces.{GivesMore};
+ghost use Rattle.nc_cli.specs.Words.{IsCommand, IsLoad};
+ghost use Rattle.nc_load.specs.Script.{script as load_script};
 ghost use Rattle.nc_replay.specs.Input.{longest_input, IsCalm};
 ghost use Rattle.nc_replay.specs.Top.{IsReplay, IsCheck, IsRun, IsStatus, PassedBy, RefusedBy, WornBy, MisconfiguredBy, RejectedBy};
 ghost use Rattle.nchan.specs.Standard.{given_by, taken_by};
-ghost use Rattle.nchan.specs.Run.{Replayed, Refused, WornOut, Misconfigured, Accepted, Rejected, Explained, OfGiven};
+ghost use Rattle.nchan.specs.Run.{Replayed, Loaded, Refused, WornOut, Misconfigured, Accepted, Rejected, Explained, OfGiven};
 ghost use Rattle.nchan.specs.Run.{Unread, TooLong, CutOff, CheckCutOff, UsageCutOff};
 
 use crate::standard::{StdSink, StdSource};
@@ -28,11 +30,18 @@ pub fn run<R: Read + Drop, W: Write + Drop>(
     ensures replayed_always { IsReplay (map string_bytes words.now) → OfGiven (PassedBy 0 result) (given_by input.new) }
     ensures accepted { IsCheck (map string_bytes words.now) → result ≡ 0 → Accepted (given_by input.new) (taken_by out.new) }
 
-    // 2: the words are neither command.
-    ensures explained { result ≡ 2 → (IsRun (map string_bytes words.now) → ⊥) × Explained (given_by input.new) (taken_by out.new) }
+    // A load reads nothing, and tells by its status what came of the script that its numbers make.
+    ensures loaded { (seed size : ℕ) → IsLoad (map string_bytes words.now) seed size
+        → Loaded result seed size (given_by input.new) (taken_by out.new) }
+    ensures loaded_always { (seed size : ℕ) → IsLoad (map string_bytes words.now) seed size
+        → PassedBy 0 result (load_script seed size) }
+
+    // 2: the words are no command.
+    ensures explained { result ≡ 2 → (IsCommand (map string_bytes words.now) → ⊥) × Explained (given_by input.new) (taken_by out.new) }
 
     // 3: a line breaks a rule; it comes always then, but where the work stopped.
-    ensures refused { result ≡ 3 → IsReplay (map string_bytes words.now) × Refused (given_by input.new) (taken_by out.new) }
+    ensures refused { IsReplay (map string_bytes words.now) → result ≡ 3 → Refused (given_by input.new) (taken_by out.new) }
+    ensures unrefused { IsCheck (map string_bytes words.now) → (result ≢ 3) × (result ≢ 9) }
     ensures refused_always { IsReplay (map string_bytes words.now) → OfGiven (RefusedBy 0 result) (given_by input.new) }
 
     // 4 and 7: the source failed, as its count tells, and the input is too long; nothing was taken.
@@ -46,7 +55,7 @@ pub fn run<R: Read + Drop, W: Write + Drop>(
     // 5: the sink failed or took nothing, as a count tells, behind a prefix of what it was to take.
     ensures cut_off { IsReplay (map string_bytes words.now) → result ≡ 5 → CutOff (given_by input.new) (taken_by out.new) }
     ensures check_cut_off { IsCheck (map string_bytes words.now) → result ≡ 5 → CheckCutOff (given_by input.new) (taken_by out.new) }
-    ensures usage_cut_off { (IsRun (map string_bytes words.now) → ⊥) → result ≡ 5
+    ensures usage_cut_off { (IsCommand (map string_bytes words.now) → ⊥) → result ≡ 5
         → UsageCutOff (given_by input.new) (taken_by out.new) }
     ensures cut_cause { result ≡ 5 → HasRisen out.old.faults out.new.faults ⊎ HasRisen out.old.refusals out.new.refusals }
     ensures cut_always { result ≢ 5 → IsCalm out.old.faults out.new.faults out.old.refusals out.new.refusals }
@@ -62,7 +71,7 @@ pub fn run<R: Read + Drop, W: Write + Drop>(
     ensures rejected_always { IsCheck (map string_bytes words.now) → OfGiven (RejectedBy result) (given_by input.new) }
 
     // 9: a line would call on a worn worker; it comes always then, but where the work stopped.
-    ensures worn { result ≡ 9 → IsReplay (map string_bytes words.now) × WornOut (given_by input.new) (taken_by out.new) }
+    ensures worn { IsReplay (map string_bytes words.now) → result ≡ 9 → WornOut (given_by input.new) (taken_by out.new) }
     ensures worn_always { IsReplay (map string_bytes words.now) → OfGiven (WornBy 0 result) (given_by input.new) }
 {
     nc_replay::top(alloc, words, input, out)

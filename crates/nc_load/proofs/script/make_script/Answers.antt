@@ -1,6 +1,7 @@
-use Rattle.std.proofs.Common.{◌∙◌, arith}
-use Rattle.nc_load.specs.Script.{front}
+use Rattle.std.proofs.Common.{◌≡◌, ◌∙◌, ℕ, List, ap, arith, length}
+use Rattle.nc_load.specs.Script.{front, script}
 use Rattle.nc_load.proofs.Text.{grown, settled, stepped}
+use Rattle.nc_load.proofs.Short.{script_short}
 use Rattle.nc_load.proofs.script.make_script.Goals as goal
 
 pub loop-i-preserved : goal.loop-i-preserved
@@ -9,7 +10,12 @@ loop-i-preserved c = record {
   number = stepped c.args.seed c.loop-i.i c.loop-i.x c.next-x.result c.loop-i.invariant.number c.next-x.ensures;
 }
 
-pub returns : goal.returns
-returns c =
+pub returns-clause-text : goal.returns-clause-text
+returns-clause-text c =
     c.of.ensures
     ∙ settled front c.args.seed c.loop-i.i c.args.size c.loop-i.out.items c.put_settled_at_end.new.out.items (omega arith) c.loop-i.invariant.text c.in_ok-put_settled_at_end.ensures
+
+pub returns-clause-few : goal.returns-clause-few
+returns-clause-few c =
+    let is : _ ≡ script c.args.seed c.args.size = c.of.ensures ∙ settled front c.args.seed c.loop-i.i c.args.size c.loop-i.out.items c.put_settled_at_end.new.out.items (omega arith) c.loop-i.invariant.text c.in_ok-put_settled_at_end.ensures in
+    λ few. omega (arith, script_short c.args.seed c.args.size few, ap (λ (t : List ℕ). length t) is)

@@ -1,6 +1,9 @@
-use Rattle.std.proofs.Common.{ℕ, List, sym, subst}
+use Rattle.std.proofs.Common.{◌≡◌, ℕ, List, [], map, sym, subst}
+use Rattle.std.specs.Prelude.{string_bytes}
 use Rattle.nc_outside.specs.Pieces.{GivesAll}
-use Rattle.nchan.specs.Standard.{given_by}
+use Rattle.nc_replay.specs.Load.{LoadEnds}
+use Rattle.nchan.specs.Standard.{given_by, taken_by}
+use Rattle.nchan.proofs.Loads.{no_run}
 use Rattle.nchan.proofs.run.run.Goals as goal
 
 pub returns-clause-refused_always : goal.returns-clause-refused_always
@@ -22,3 +25,9 @@ returns-clause-misconfigured_always g c = λ is text gives.
 pub returns-clause-rejected_always : goal.returns-clause-rejected_always
 returns-clause-rejected_always g c = λ is text gives.
     (c.top.ensures.rejected_always is).1 text (subst (λ (old : List (List ℕ)). GivesAll text old (given_by c.top.new.input)) (sym c.requires.given_nothing) gives)
+
+pub returns-clause-loaded : goal.returns-clause-loaded
+returns-clause-loaded g c = λ seed size is. record {
+  unread = subst (λ s. given_by s ≡ []) (sym (c.top.ensures.untouched (no_run (map string_bytes c.args.words.now) seed size is))) c.requires.given_nothing;
+  ends = subst (λ (old : List ℕ). LoadEnds c.top.result seed size old (taken_by c.top.new.out)) c.requires.took_nothing (c.top.ensures.loaded seed size is);
+}
