@@ -70,3 +70,7 @@ module _ {X : Type 0} (test : X → Bool) where
   -- where one passes, its place is found
   pub any-is_found : (seen xs old : List X) → None ≡ position test seen → seen ≡ xs → xs ≡ old → list_any test old ≡ true → ⊥
   any-is_found seen xs old at here known some = let none = none_any old (sym (missed-taken seen xs old at here known)) in cc
+
+  -- where no place is found, none passes
+  pub missed-any : (xs : List X) → None ≡ position test xs → list_any test xs ≡ false
+  missed-any xs at = none_any xs (missed_first xs (sym at))

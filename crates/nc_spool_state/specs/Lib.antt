@@ -3,6 +3,7 @@ pub mod Place
 pub mod Spool
 pub mod Shelf
 pub mod Kept
+pub mod Uses
 pub mod Choice
 pub mod Hear
 pub mod Edge

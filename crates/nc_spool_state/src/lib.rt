@@ -16,6 +16,7 @@ mod place;
 mod shelf;
 mod spool;
 mod starting;
+mod uses;
 mod workers;
 
 pub use choice::{Choice, Find, choose};

@@ -1,7 +1,6 @@
 //! What a spool knows of one of its channels.
 ghost use Rattle.std.specs.Prelude.{◌≡◌};
 ghost use Rattle.nc_spool_state.specs.Place.{is_asked, awaits_number, look_number};
-ghost use Rattle.nc_spool_state.specs.Kept.{place_uses};
 
 use nc_types::MsgId;
 
@@ -45,16 +44,6 @@ impl Place {
     {
         match self {
             Place::Asked { no, .. } => *no == number,
-            _ => false,
-        }
-    }
-
-    /// Whether a message was found that is held by this grant.
-    pub fn uses(&self, by: u8, grant: u64) -> bool
-        ensures { result ≡ place_uses by grant self.now }
-    {
-        match self {
-            Place::Found { owner, g, .. } => *owner == by && *g == grant,
             _ => false,
         }
     }

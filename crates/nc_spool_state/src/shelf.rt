@@ -1,30 +1,36 @@
 //! The shelf: the spools of a worker in their order.
 ghost use Rattle.std.specs.Prelude.{◌≡◌, ◌<◌, ◌≤◌, [], length, find, OnOk, IfOk, IfSome, IfNone};
-ghost use Rattle.std.specs.List.{position, slice_get, remove};
+ghost use Rattle.std.specs.List.{position, slice_index_or, remove};
 ghost use Rattle.nc_spool_state.specs.Spool.{is_of, awaits, has_reader};
 ghost use Rattle.nc_spool_state.specs.Shelf.{spool_of, others, place_before, with_spool, without_first, with_read_spool, keys_with};
 ghost use Rattle.nc_spool_state.specs.Kept.{is_used};
 
 use crate::key::SpoolKey;
 use crate::spool::Spool;
+use crate::uses::{Use, count_all, tell_use, uncount_all};
 use nc_types::{ChanName, NoMemory};
 use std::alloc::Global;
 use std::cmp::Ordering;
 use std::marker::Model;
 
-/// Spools in ascending order of list and cursor. A step takes one out, works on it, and puts it back.
+/// Spools in ascending order of list and cursor, and how many of their found places use each hold.
+/// A step takes a spool out, works on it, and puts it back.
 #[derive(Drop)]
 pub struct Shelf {
     spools: Vec<Spool>,
+    uses: Vec<Use>,
 }
 
 impl Model for Shelf {
     ghost use Rattle.std.specs.Prelude.{List as Items};
     ghost use Rattle.nc_spool_state.specs.Spool.{SpoolAt};
+    ghost use Rattle.nc_spool_state.specs.Uses.{AreCounted};
 
     ghost Value = { Items SpoolAt };
 
     ghost view = { λ s. s.spools.items };
+
+    ghost invariant = { λ s. AreCounted s.uses.items s.spools.items };
 }
 
 /// The place of the spool of a key, if there is one.
@@ -51,13 +57,6 @@ fn place_with(spools: &[Spool], k: u64) -> Option<usize>
     spools.iter().position(|spool| spool.has_reader(k))
 }
 
-/// Whether one of some spools uses the hold of a grant.
-fn is_used(spools: &[Spool], owner: u8, g: u64) -> bool
-    ensures { result ≡ is_used owner g spools.now }
-{
-    spools.iter().any(|spool| spool.uses(owner, g))
-}
-
 /// The place where a spool is to stand: before the first with a greater key.
 fn place_before(spools: &[Spool], key: &SpoolKey) -> usize
     ensures place { result ≡ place_before key.now spools.now }
@@ -78,6 +77,7 @@ impl Shelf {
     {
         Shelf {
             spools: Vec::new(alloc),
+            uses: Vec::new(alloc),
         }
     }
 
@@ -86,13 +86,24 @@ impl Shelf {
         *self.spools.allocator()
     }
 
+    /// Takes out the spool at a place, and the uses of its found places with it.
+    fn take_at(&mut self, place: usize) -> Spool
+        requires { place < length self.old }
+        ensures value { result ≡ slice_index_or self.old place result }
+        ensures items { self.new ≡ remove self.old place }
+    {
+        let spool = self.spools.remove(place);
+        uncount_all(&mut self.uses, &spool.places);
+        spool
+    }
+
     /// Takes out the spool of a key, if there is one.
     pub fn take(&mut self, key: &SpoolKey) -> Option<Spool>
         ensures taken { result ≡ spool_of key.now self.old }
         ensures others { self.new ≡ others key.now self.old }
     {
         let place = place_of(&self.spools, key)?;
-        Some(self.spools.remove(place))
+        Some(self.take_at(place))
     }
 
     /// Takes out the spool that awaits the look of this number, if there is one.
@@ -101,7 +112,7 @@ impl Shelf {
         ensures others { self.new ≡ without_first (awaits number) self.old }
     {
         let place = place_awaiting(&self.spools, number)?;
-        Some(self.spools.remove(place))
+        Some(self.take_at(place))
     }
 
     /// Takes out the spool where a subscriber stands, if there is one.
@@ -110,14 +121,14 @@ impl Shelf {
         ensures others { self.new ≡ without_first (has_reader k) self.old }
     {
         let place = place_with(&self.spools, k)?;
-        Some(self.spools.remove(place))
+        Some(self.take_at(place))
     }
 
     /// Whether one of the spools uses the hold of a grant.
     pub fn uses(&self, owner: u8, g: u64) -> bool
         ensures { result ≡ is_used owner g self.now }
     {
-        is_used(&self.spools, owner, g)
+        tell_use(&self.uses, owner, g)
     }
 
     /// Puts a spool back that was taken out, unless nobody stands there any more.
@@ -134,8 +145,12 @@ impl Shelf {
     pub fn put(&mut self, spool: Spool) -> Result<(), NoMemory>
         ensures { OnOk result (self.new ≡ with_spool spool self.old) }
     {
+        count_all(&mut self.uses, &spool.places)?;
         let place = place_before(&self.spools, &spool.key);
-        self.spools.insert(place, spool)?;
+        if let Err(failed) = self.spools.insert(place, spool) {
+            uncount_all(&mut self.uses, &failed.value.places);
+            return Err(NoMemory);
+        }
         Ok(())
     }
 

@@ -1,8 +1,6 @@
 //! Spools: subscribers who wait together.
 ghost use Rattle.std.specs.Prelude.{◌≡◌, ◌<◌, ◌≤◌, length, IfSome, OnOk};
-ghost use Rattle.std.specs.List.{list_any};
 ghost use Rattle.nc_spool_state.specs.Place.{is_awaited, place_awaiting};
-ghost use Rattle.nc_spool_state.specs.Kept.{place_uses, spool_uses};
 ghost use Rattle.nc_spool_state.specs.Spool.{is_of, has_channel, awaits, has_reader, is_among, without, with_reader, without_reader, place_above, place_at, with_place};
 
 use crate::key::SpoolKey;
@@ -70,21 +68,7 @@ fn is_awaited(places: &[Place], number: u64) -> bool
     places.iter().any(|place| place.awaits(number))
 }
 
-/// Whether one of some places found a message that is held by this grant.
-fn is_used(places: &[Place], owner: u8, g: u64) -> bool
-    ensures { result ≡ list_any (place_uses owner g) places.now }
-{
-    places.iter().any(|place| place.uses(owner, g))
-}
-
 impl Spool {
-    /// Whether one of the places found a message that is held by this grant.
-    pub fn uses(&self, owner: u8, g: u64) -> bool
-        ensures { result ≡ spool_uses owner g self.now }
-    {
-        is_used(&self.places, owner, g)
-    }
-
     /// Whether this is the spool of a key.
     pub fn is_of(&self, key: &SpoolKey) -> bool
         ensures { result ≡ is_of key.now self.now }

@@ -1,4 +1,4 @@
-use Rattle.std.proofs.Common.{◌∙◌}
+use Rattle.std.proofs.Common.{refl, ◌∙◌}
 use Rattle.nc_spool_state.specs.Spool.{is_of}
 use Rattle.nc_spool_state.proofs.Firsts.{found-taken, found-left, missed-taken, missed-left}
 use Rattle.nc_spool_state.proofs.shelf.Shelf.take.Goals as goal
@@ -10,7 +10,7 @@ pub returns-in_err-place-clause-others : goal.returns-in_err-place-clause-others
 returns-in_err-place-clause-others c = missed-left (is_of c.args.key.now) _ _ _ c.in_err-place.ensures.place c.deref.ensures.value c.self.view_is
 
 pub returns-clause-taken : goal.returns-clause-taken
-returns-clause-taken c = found-taken (is_of c.args.key.now) _ _ _ _ _ c.in_ok-place.ensures.place c.deref.ensures.value c.self.view_is c.remove.ensures.value
+returns-clause-taken c = found-taken (is_of c.args.key.now) _ _ _ _ _ c.in_ok-place.ensures.place (c.deref.ensures.value ∙ c.self.view_is) refl c.take_at.ensures.value
 
 pub returns-clause-others : goal.returns-clause-others
-returns-clause-others c = found-left (is_of c.args.key.now) _ _ _ _ _ c.in_ok-place.ensures.place c.deref.ensures.value c.self.view_is c.remove.ensures.items
+returns-clause-others c = found-left (is_of c.args.key.now) _ _ _ _ _ c.in_ok-place.ensures.place (c.deref.ensures.value ∙ c.self.view_is) refl c.take_at.ensures.items
