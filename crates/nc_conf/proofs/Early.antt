@@ -1,6 +1,6 @@
 -- A fault before the place up to which a text was read is the text's first, whatever follows.
 use Rattle.std.proofs.Common.{◌≡◌, ℕ, zero, suc, ◌+◌, ◌<◌, ◌≤◌, ◌⊎◌, Bool, true, false, List, [], ◌∷◌, ◌++◌, length, Option, Some, None, refl, sym, ◌∙◌, subst, ap, append_assoc, inl, inr, arith}
-use Rattle.std.specs.Prelude.{not, ◌&&◌, ◌||◌, if◌then◌else◌, slice_get, codes}
+use Rattle.std.specs.Prelude.{not, ◌&&◌, ◌||◌, if◌then◌else◌, slice_get, codes, bytes_eq}
 use Rattle.std.specs.List.{AllByRecursion, list_any, flat_map}
 use Rattle.std.specs.Option.{option_and_then}
 use Rattle.std.proofs.lemmas.Bool.Decides.{nat_tests}
@@ -14,10 +14,9 @@ use Rattle.nc_conf.specs.declared.syntax.Word.{Word}
 use Rattle.nc_conf.specs.declared.syntax.Directive.{Directive}
 use Rattle.nc_conf.specs.declared.syntax.Close.{Close}
 use Rattle.nc_conf.specs.declared.syntax.Begun.{Begun}
-use Rattle.nc_conf.specs.Value.{same}
 use Rattle.nc_conf.specs.Table.{row_of}
 use Rattle.nc_conf.specs.Faults.{fault, fault_if, opened_by, kind_of, same_block, is_named, may_stand, misplaced, repeated, miscounted, too_many, breaks, rule_of, bad_args, path_of, is_path, again_at, again, is_same_location, faults_by, directive_faults, each_directive, has_line, has_role, is_location, nameless, unended, is_like, are_enough}
-use Rattle.nc_conf.specs.First.{is_before, IsIn, IsNotBefore, IsFirst}
+use Rattle.nc_conf.specs.First.{is_before, IsIn, IsNotBefore, IsFirstFault}
 use Rattle.nc_conf.specs.Reader.{SyntaxAt, words_of, all_faults}
 use Rattle.nc_conf.specs.Reading.{HasFirst}
 use Rattle.nc_conf.proofs.SoFar.{ReadSoFar}
@@ -120,7 +119,7 @@ each_stays ds more before (d ∷ xs) h =
 none_named : (b : ℕ) (name : List ℕ) (more : List Directive) → AllByRecursion (IsNotOf b) more → list_any (is_named (Some b) name) more ≡ false
 none_named b name [] h = refl
 none_named b name (d ∷ more) h =
-    ap (λ (v : Bool). (v && same d.name.text name) || list_any (is_named (Some b) name) more) h.0 ∙ none_named b name more h.1
+    ap (λ (v : Bool). (v && bytes_eq d.name.text name) || list_any (is_named (Some b) name) more) h.0 ∙ none_named b name more h.1
 
 or_none : (v w : Bool) → w ≡ false → (v || w) ≡ v
 or_none true w h = refl
@@ -194,7 +193,7 @@ all_back P [] ys h = h
 all_back P (x ∷ xs) ys h = all_back P xs ys h.1
 
 -- faults of what stands behind a place change nothing before it
-first_stays : (p : ℕ) (f : Fault) (es cs us xs ys vs : List Fault) → f.at < p → IsFirst (es ++ cs ++ us) (Some f) → Behind p us → Behind p xs → Behind p ys → Behind p vs → IsFirst ((es ++ xs) ++ (cs ++ ys) ++ vs) (Some f)
+first_stays : (p : ℕ) (f : Fault) (es cs us xs ys vs : List Fault) → f.at < p → IsFirstFault (es ++ cs ++ us) (Some f) → Behind p us → Behind p xs → Behind p ys → Behind p vs → IsFirstFault ((es ++ xs) ++ (cs ++ ys) ++ vs) (Some f)
 first_stays p f es cs us xs ys vs low h bu bx by bv =
     let P = IsNotBefore f in
     let front = all_front P (es ++ cs) us h.1 in (
@@ -215,7 +214,7 @@ first_stays p f es cs us xs ys vs low h bu bx by bv =
     member (inr i) = absurd (not_behind p f us low bu i)
 
 -- the faults of a text are those of what was read and others behind its place
-whole : (len p : ℕ) (s t : SyntaxAt) (bad : Option ℕ) (f : Fault) → Tidy s → (h : Grown p s t) → IsPlaceBehind p bad → p ≤ len → f.at < p → Behind p (unended len s.blocks (words_of s.begun) s.broken None) → IsFirst (all_faults len s None) (Some f) → IsFirst (all_faults len t bad) (Some f)
+whole : (len p : ℕ) (s t : SyntaxAt) (bad : Option ℕ) (f : Fault) → Tidy s → (h : Grown p s t) → IsPlaceBehind p bad → p ≤ len → f.at < p → Behind p (unended len s.blocks (words_of s.begun) s.broken None) → IsFirstFault (all_faults len s None) (Some f) → IsFirstFault (all_faults len t bad) (Some f)
 whole len p s t bad f clean h place within low bu first =
     let all = s.directives ++ h.ds in
     let e : each_directive t.directives [] t.directives ≡ each_directive s.directives [] s.directives ++ each_directive all s.directives h.ds =
@@ -231,10 +230,10 @@ whole len p s t bad f clean h place within low bu first =
     let so = first_stays p f (each_directive s.directives [] s.directives) (flat_map (nameless s.directives) s.closes) (unended len s.blocks (words_of s.begun) s.broken None)
     (each_directive all s.directives h.ds) (flat_map (nameless all) h.cs) last low first bu
     (each_behind p all s.directives h.ds h.later) (closes_behind p all h.cs h.shut) (unended_behind p len t.blocks (words_of t.begun) t.broken bad within h.broken place) in
-    subst (λ (l : List Fault). IsFirst (l ++ flat_map (nameless t.directives) t.closes ++ last) (Some f)) (sym e)
-    (subst (λ (l : List Fault). IsFirst ((each_directive s.directives [] s.directives ++ each_directive all s.directives h.ds) ++ l ++ last) (Some f)) (sym c) so)
+    subst (λ (l : List Fault). IsFirstFault (l ++ flat_map (nameless t.directives) t.closes ++ last) (Some f)) (sym e)
+    (subst (λ (l : List Fault). IsFirstFault ((each_directive s.directives [] s.directives ++ each_directive all s.directives h.ds) ++ l ++ last) (Some f)) (sym c) so)
 
-pub early : OneComes → (text : List ℕ) (p : ℕ) (s : SyntaxAt) (f : Fault) → ReadSoFar text p s → Tidy s → s.begun ≡ None → s.broken ≡ None → p ≤ length text → f.at < p → IsFirst (all_faults (length text) s None) (Some f) → HasFirst text (Some f)
+pub early : OneComes → (text : List ℕ) (p : ℕ) (s : SyntaxAt) (f : Fault) → ReadSoFar text p s → Tidy s → s.begun ≡ None → s.broken ≡ None → p ≤ length text → f.at < p → IsFirstFault (all_faults (length text) s None) (Some f) → HasFirst text (Some f)
 early one text p s f read clean begun broken within low first =
     let rest = finish one text p s begun broken read in
     let unclosed : Behind p (unended (length text) s.blocks (words_of s.begun) s.broken None) = unended_behind p (length text) s.blocks (words_of s.begun) s.broken None within (subst (λ (o : Option ℕ). IsPlaceBehind p o) (sym broken) tt) tt in

@@ -1,6 +1,6 @@
 -- What is known of directives, and of one directive more.
 use Rattle.std.proofs.Common.{Bor, ◌≡◌, ℕ, ◌+◌, ◌<◌, ◌^◌, Bool, true, false, List, [], ◌∷◌, ◌++◌, length, Option, Some, None, refl, sym, ◌∙◌, ap, arith}
-use Rattle.std.specs.Prelude.{codes, if◌then◌else◌, ◌&&◌, ◌||◌, find, count_by, is_some, IfSome}
+use Rattle.std.specs.Prelude.{codes, if◌then◌else◌, ◌&&◌, ◌||◌, find, count_by, is_some, IfSome, bytes_eq}
 use Rattle.std.specs.List.{AllByRecursion, list_any}
 use Rattle.std.specs.declared.cmp.Ordering.{Ordering}
 use Rattle.std.specs.declared.cmp.Ordering.TheVariants.{Less, Equal, Greater}
@@ -19,7 +19,6 @@ use Rattle.nc_conf.specs.declared.syntax.Word.{Word}
 use Rattle.nc_conf.specs.declared.syntax.Directive.{Directive}
 use Rattle.nc_conf.specs.declared.lines.Key.{Key}
 use Rattle.nc_conf.specs.declared.lines.Entry.{Entry}
-use Rattle.nc_conf.specs.Value.{same}
 use Rattle.nc_conf.specs.declared.table.Row.{Row}
 use Rattle.nc_conf.specs.Table.{rows, row_in, row_of}
 use Rattle.nc_conf.specs.Faults.{same_block, is_named, same_bool, is_exact, path_of, has_path, is_path, is_same_location, fault_if, again_at, again}
@@ -40,18 +39,18 @@ block_ties None (Some j) = refl
 block_ties (Some i) None = refl
 block_ties (Some i) (Some j) = sym (unsigned_ties i j)
 
-key_ties : (k q : Key) → is_eq (key_order k q) ≡ (same_block k.block q.block && same k.text.now q.text.now)
+key_ties : (k q : Key) → is_eq (key_order k q) ≡ (same_block k.block q.block && bytes_eq k.text.now q.text.now)
 key_ties k q =
     then_ties (option_cmp nat_cmp k.block q.block) (slice_cmp nat_cmp k.text.now q.text.now)
     ∙ ap (λ (b : Bool). b && is_eq (slice_cmp nat_cmp k.text.now q.text.now)) (block_ties k.block q.block)
     ∙ ap (λ (b : Bool). same_block k.block q.block && b) (sym (texts_ties k.text.now q.text.now))
 
 -- a key of this block and text
-key_at : (k q : Key) (block : Option ℕ) (text : List ℕ) → k.block ≡ block → k.text.now ≡ text → is_eq (key_order k q) ≡ (same_block block q.block && same text q.text.now)
+key_at : (k q : Key) (block : Option ℕ) (text : List ℕ) → k.block ≡ block → k.text.now ≡ text → is_eq (key_order k q) ≡ (same_block block q.block && bytes_eq text q.text.now)
 key_at k q block text e f =
     key_ties k q
-    ∙ ap (λ (o : Option ℕ). same_block o q.block && same k.text.now q.text.now) e
-    ∙ ap (λ (t : List ℕ). same_block block q.block && same t q.text.now) f
+    ∙ ap (λ (o : Option ℕ). same_block o q.block && bytes_eq k.text.now q.text.now) e
+    ∙ ap (λ (t : List ℕ). same_block block q.block && bytes_eq t q.text.now) f
 
 same_number : (i j : ℕ) → same_block (Some i) (Some j) ≡ true → i ≡ j
 same_number i j e = grind (arith, nat_tests)
@@ -100,7 +99,7 @@ lines_with ds d k old new entry block text is put h = record { first = λ q. fir
         by_test : (b : Bool) → is_named q.block q.text.now d ≡ b → first_in (if b then Some (entry_with (tree.get key_order old k) d) else tree.get key_order old q) ≡ option_or (line_in ds q.block q.text.now) (if b then Some d else None)
         by_test true e =
             first_with (tree.get key_order old k) d
-            ∙ ap (λ (o : Option Directive). option_or o (Some d)) (h.first k ∙ ap (λ (o : Option ℕ). line_in ds o k.text.now) (block ∙ one_block d.within q.block (both_left (same_block d.within q.block) (same d.name.text q.text.now) e)) ∙ ap (line_in ds q.block) (text ∙ same_is d.name.text q.text.now (both_right (same_block d.within q.block) (same d.name.text q.text.now) e)))
+            ∙ ap (λ (o : Option Directive). option_or o (Some d)) (h.first k ∙ ap (λ (o : Option ℕ). line_in ds o k.text.now) (block ∙ one_block d.within q.block (both_left (same_block d.within q.block) (bytes_eq d.name.text q.text.now) e)) ∙ ap (line_in ds q.block) (text ∙ same_is d.name.text q.text.now (both_right (same_block d.within q.block) (bytes_eq d.name.text q.text.now) e)))
         by_test false e = h.first q ∙ or_none (line_in ds q.block q.text.now)
 
     count_at : (q : Key) → count_in (tree.get key_order new q) ≡ count_by (is_named q.block q.text.now) (ds ++ d ∷ [])
@@ -109,7 +108,7 @@ lines_with ds d k old new entry block text is put h = record { first = λ q. fir
         by_test : (b : Bool) → is_named q.block q.text.now d ≡ b → count_in (if b then Some (entry_with (tree.get key_order old k) d) else tree.get key_order old q) ≡ count_by (is_named q.block q.text.now) ds + (if b then 1 else 0)
         by_test true e =
             count_with (tree.get key_order old k) d
-            ∙ ap (λ (n : ℕ). n + 1) (h.count k ∙ ap (λ (o : Option ℕ). count_by (is_named o k.text.now) ds) (block ∙ one_block d.within q.block (both_left (same_block d.within q.block) (same d.name.text q.text.now) e)) ∙ ap (λ (t : List ℕ). count_by (is_named q.block t) ds) (text ∙ same_is d.name.text q.text.now (both_right (same_block d.within q.block) (same d.name.text q.text.now) e)))
+            ∙ ap (λ (n : ℕ). n + 1) (h.count k ∙ ap (λ (o : Option ℕ). count_by (is_named o k.text.now) ds) (block ∙ one_block d.within q.block (both_left (same_block d.within q.block) (bytes_eq d.name.text q.text.now) e)) ∙ ap (λ (t : List ℕ). count_by (is_named q.block t) ds) (text ∙ same_is d.name.text q.text.now (both_right (same_block d.within q.block) (bytes_eq d.name.text q.text.now) e)))
         by_test false e = let told = h.count q in omega (arith, told)
 
 -- a count is at most the number of directives
@@ -186,9 +185,9 @@ no_row r e = absurd (cc)
 
 row_located : (all : List (List ℕ × Row)) (name : List ℕ) (r : Row) → AllByRecursion IsLocation all → row_in all name ≡ Some r → is_path r.shape ≡ true → name ≡ codes "location"
 row_located [] name r h e p = no_row r e
-row_located (row ∷ all) name r h e p = by_test (same name row.0) (λ f. row_located all name r h.1 f p) refl e
+row_located (row ∷ all) name r h e p = by_test (bytes_eq name row.0) (λ f. row_located all name r h.1 f p) refl e
   where
-    by_test : (b : Bool) → (row_in all name ≡ Some r → name ≡ codes "location") → same name row.0 ≡ b → (if b then Some row.1 else row_in all name) ≡ Some r → name ≡ codes "location"
+    by_test : (b : Bool) → (row_in all name ≡ Some r → name ≡ codes "location") → bytes_eq name row.0 ≡ b → (if b then Some row.1 else row_in all name) ≡ Some r → name ≡ codes "location"
     by_test true later k f = same_is name row.0 k ∙ h.0 (ap (λ (s : Row). is_path s.shape) (some_row row.1 r f) ∙ p)
     by_test false later k f = later f
 

@@ -13,7 +13,7 @@ use Rattle.nc_conf.specs.declared.syntax.Close.{Close}
 use Rattle.nc_conf.specs.declared.syntax.Begun.{Begun}
 use Rattle.nc_conf.specs.Syntax.{Item, Line, Opens, Closes, word_token, words_tokens, item_tokens, AreNested, open_behind, innermost, directives_of, closes_of, Stops, IsSyntax}
 use Rattle.nc_conf.specs.Faults.{faults_of}
-use Rattle.nc_conf.specs.First.{is_before, IsIn, IsNotBefore, IsFirst}
+use Rattle.nc_conf.specs.First.{is_before, IsIn, IsNotBefore, IsFirstFault}
 use Rattle.nc_conf.specs.Config.{config_of}
 use Rattle.nc_conf.specs.Reader.{SyntaxAt, empty, after, words_of, all_faults}
 use Rattle.nc_conf.specs.Answer.{OneFirst, OneConfig, NeverBoth}
@@ -171,7 +171,7 @@ same_fault f g p q =
     let rule : f.rule ≡ g.rule = grind (arith, nat_tests) in
     ap (λ (n : ℕ). made n f.rule) at ∙ ap (λ (n : ℕ). made g.at n) rule
 
-first_one : (fs : List FaultAt) (a b : Option FaultAt) → IsFirst fs a → IsFirst fs b → a ≡ b
+first_one : (fs : List FaultAt) (a b : Option FaultAt) → IsFirstFault fs a → IsFirstFault fs b → a ≡ b
 first_one fs None None h k = refl
 first_one fs None (Some g) h k = absurd (subst (λ (l : List FaultAt). IsIn l g) h k.0)
 first_one fs (Some f) None h k = absurd (subst (λ (l : List FaultAt). IsIn l f) k h.0)
@@ -188,7 +188,7 @@ one_first one text first other h k =
     ∙ ap (λ (ts : List Token). all_faults len (all_after empty ts) h.bad) t.0
     ∙ ap (λ (o : Option ℕ). all_faults len (all_after empty k.syntax.tokens) o) t.1
     ∙ sym (faults_are len k.syntax.tokens k.items k.words k.broken k.bad k.syntax.syntax) in
-    first_one (faults_of len k.items k.words k.broken k.bad) first other (subst (λ (fs : List FaultAt). IsFirst fs first) same h.is) k.is
+    first_one (faults_of len k.items k.words k.broken k.bad) first other (subst (λ (fs : List FaultAt). IsFirstFault fs first) same h.is) k.is
 
 pub one_config : OneReading → OneConfig
 one_config one text config other h k =

@@ -1,6 +1,6 @@
 -- Each number that is configured is within the bounds of its directive.
 use Rattle.std.proofs.Common.{◌≡◌, ℕ, ◌≤◌, Bool, true, false, List, [], ◌∷◌, length, Option, Some, None, refl, sym, ◌∙◌, subst, ap, arith}
-use Rattle.std.specs.Prelude.{if◌then◌else◌, ◌&&◌, nat_eq, nat_le, unwrap_or, codes}
+use Rattle.std.specs.Prelude.{if◌then◌else◌, ◌&&◌, nat_eq, nat_le, unwrap_or, codes, bytes_eq}
 use Rattle.std.specs.Option.{option_and_then, option_or}
 use Rattle.std.proofs.lemmas.Bool.Decides.{nat_tests}
 use Rattle.nc_types.specs.Config.{IsWorkers, IsSlots}
@@ -8,7 +8,7 @@ use Rattle.nc_types.specs.Settings.{IsLength, IsSeconds, IsNameLimit, IsBodyLimi
 use Rattle.nc_conf.specs.declared.table.Shape.{Shape}
 use Rattle.nc_conf.specs.declared.table.Row.{Row}
 use Rattle.nc_conf.specs.declared.syntax.Directive.{Directive}
-use Rattle.nc_conf.specs.Value.{same, whole, if_within, within, number, measured, time_unit, size_unit}
+use Rattle.nc_conf.specs.Value.{whole, if_within, within, number, measured, time_unit, size_unit}
 use Rattle.nc_conf.specs.Table.{row_of}
 use Rattle.nc_conf.specs.Faults.{same_block, is_named}
 use Rattle.nc_conf.specs.Config.{line_in, around, inherited, argument, value, value_in, value_of, number_or}
@@ -29,11 +29,11 @@ pub both_right : (a b : Bool) → (a && b) ≡ true → b ≡ true
 both_right true b e = e
 both_right false b e = absurd (cc)
 
-pub same_is : (xs ys : List ℕ) → same xs ys ≡ true → xs ≡ ys
+pub same_is : (xs ys : List ℕ) → bytes_eq xs ys ≡ true → xs ≡ ys
 same_is [] [] e = refl
 same_is [] (y ∷ ys) e = absurd (cc)
 same_is (x ∷ xs) [] e = absurd (cc)
-same_is (x ∷ xs) (y ∷ ys) e = cons x y xs ys (same_byte x y (both_left (nat_eq x y) (same xs ys) e)) (same_is xs ys (both_right (nat_eq x y) (same xs ys) e))
+same_is (x ∷ xs) (y ∷ ys) e = cons x y xs ys (same_byte x y (both_left (nat_eq x y) (bytes_eq xs ys) e)) (same_is xs ys (both_right (nat_eq x y) (bytes_eq xs ys) e))
 
 abbrev IfNamed : List ℕ → Option Directive → Type 0
 IfNamed name None = Unit {0}
@@ -44,7 +44,7 @@ line_named [] block name = tt
 line_named (d ∷ ds) block name = by_test (is_named block name d) refl (line_named ds block name)
   where
     by_test : (b : Bool) → is_named block name d ≡ b → IfNamed name (line_in ds block name) → IfNamed name (if b then Some d else line_in ds block name)
-    by_test true e h = same_is d.name.text name (both_right (same_block d.within block) (same d.name.text name) e)
+    by_test true e h = same_is d.name.text name (both_right (same_block d.within block) (bytes_eq d.name.text name) e)
     by_test false e h = h
 
 or_named : (name : List ℕ) (a b : Option Directive) → IfNamed name a → IfNamed name b → IfNamed name (option_or a b)

@@ -1,5 +1,5 @@
 -- What the directives of a text without faults configure.
-use Rattle.std.specs.Prelude.{ℕ, ◌+◌, Bool, true, false, List, [], ◌∷◌, codes, if◌then◌else◌, ◌||◌, Option, Some, None, position, map, unwrap_or, slice_get, filter}
+use Rattle.std.specs.Prelude.{ℕ, ◌+◌, Bool, true, false, List, [], ◌∷◌, codes, if◌then◌else◌, ◌||◌, Option, Some, None, position, map, unwrap_or, slice_get, filter, bytes_eq}
 use Rattle.std.specs.List.{find, list_any, filter_map}
 use Rattle.std.specs.Option.{option_and_then, option_or}
 use Rattle.nc_types.specs.Settings.{SettingsAt}
@@ -11,7 +11,7 @@ use Rattle.nc_conf.specs.declared.table.Shape.TheVariants as shapes
 use Rattle.nc_conf.specs.declared.table.Row.{Row}
 use Rattle.nc_conf.specs.declared.syntax.Word.{Word}
 use Rattle.nc_conf.specs.declared.syntax.Directive.{Directive}
-use Rattle.nc_conf.specs.Value.{same, number, seconds, size, address, id_text}
+use Rattle.nc_conf.specs.Value.{number, seconds, size, address, id_text}
 use Rattle.nc_conf.specs.Table.{row_of}
 use Rattle.nc_conf.specs.Faults.{is_named, is_word, is_exact, path_of, has_line}
 
@@ -105,7 +105,7 @@ location_of ds i d = record {
 }
 
 abbrev pub has_name : List ℕ → Directive → Bool
-has_name name d = same d.name.text name
+has_name name d = bytes_eq d.name.text name
 
 -- the locations among directives of the numbers from i on
 abbrev pub locations_from : List Directive → ℕ → List Directive → List Location

@@ -1,7 +1,8 @@
 -- The rules, and all faults of a text.
-use Rattle.std.specs.Prelude.{ℕ, Bool, true, false, not, List, [], ◌∷◌, ◌++◌, length, codes, if◌then◌else◌, ◌==◌, ◌&&◌, ◌||◌, nat_lt, nat_le, Option, Some, None, slice_get, count_by}
+use Rattle.std.specs.Prelude.{ℕ, Bool, true, false, not, List, [], ◌∷◌, ◌++◌, length, codes, if◌then◌else◌, ◌==◌, ◌&&◌, ◌||◌, nat_lt, nat_le, Option, Some, None, slice_get, count_by, bytes_eq}
 use Rattle.std.specs.List.{list_any, flat_map}
 use Rattle.std.specs.Option.{option_and_then, is_some}
+use Rattle.nc_types.specs.Text.{begins_slash}
 use Rattle.nc_conf.specs.declared.fault.Fault.{Fault}
 use Rattle.nc_conf.specs.declared.table.Block.{Block}
 use Rattle.nc_conf.specs.declared.table.Block.TheVariants.{Main}
@@ -12,7 +13,7 @@ use Rattle.nc_conf.specs.declared.syntax.Word.{Word}
 use Rattle.nc_conf.specs.declared.syntax.Directive.{Directive}
 use Rattle.nc_conf.specs.declared.syntax.Close.{Close}
 use Rattle.nc_conf.specs.Syntax.{Item, directives_of, closes_of, open_behind}
-use Rattle.nc_conf.specs.Value.{same, number, seconds, size, address, is_id, begins_slash}
+use Rattle.nc_conf.specs.Value.{number, seconds, size, address, is_id}
 use Rattle.nc_conf.specs.Table.{row_of, stands_in}
 
 abbrev pub fault : ℕ → ℕ → Fault
@@ -41,7 +42,7 @@ same_block _ _ = false
 
 -- a directive has this name and stands in this block
 abbrev pub is_named : Option ℕ → List ℕ → Directive → Bool
-is_named block name e = same_block e.within block && same e.name.text name
+is_named block name e = same_block e.within block && bytes_eq e.name.text name
 
 -- 4: a directive in a wrong block
 
@@ -80,17 +81,17 @@ miscounted r d = too_many (slice_get d.args r.most) ++ fault_if (nat_lt (length 
 -- 7 to 12: an argument that isn't what it should be
 
 abbrev pub is_word : List ℕ → Word → Bool
-is_word text w = same w.text text
+is_word text w = bytes_eq w.text text
 
 -- a word is among the earlier arguments
 abbrev pub is_again : List Word → List ℕ → Bool
 is_again before text = list_any (is_word text) before
 
 abbrev pub is_way : List ℕ → Bool
-is_way text = same text (codes "longpoll") || same text (codes "websocket")
+is_way text = bytes_eq text (codes "longpoll") || bytes_eq text (codes "websocket")
 
 abbrev pub is_first_word : List ℕ → Bool
-is_first_word text = same text (codes "oldest") || same text (codes "newest")
+is_first_word text = bytes_eq text (codes "oldest") || bytes_eq text (codes "newest")
 
 -- the first of two or more arguments
 abbrev pub is_before_path : List Word → List Word → Bool
@@ -104,7 +105,7 @@ is_path_place _ = true
 
 -- an argument of a location: `=` before the path, and the path
 abbrev pub breaks_location : List Word → List ℕ → List Word → Bool
-breaks_location before text later = if is_before_path before later then not (same text (codes "=")) else is_path_place before && not (begins_slash text)
+breaks_location before text later = if is_before_path before later then not (bytes_eq text (codes "=")) else is_path_place before && not (begins_slash text)
 
 -- an argument breaks the rule of its shape, between those before and behind it
 abbrev pub breaks : Shape → List Word → List ℕ → List Word → Bool
@@ -113,7 +114,7 @@ breaks (shapes.Number low high) before text later = not (is_some (number low hig
 breaks shapes.Address before text later = not (is_some (address text))
 breaks shapes.Seconds before text later = not (is_some (seconds text))
 breaks shapes.Size before text later = not (is_some (size text))
-breaks shapes.HttpWord before text later = not (same text (codes "http"))
+breaks shapes.HttpWord before text later = not (bytes_eq text (codes "http"))
 breaks shapes.Ways before text later = not (is_way text) || is_again before text
 breaks shapes.First before text later = not (is_first_word text)
 breaks shapes.ChannelId before text later = not (is_id text)
@@ -136,7 +137,7 @@ abbrev pub bad_args : Shape → List Word → List Word → List Fault
 bad_args shape before [] = []
 bad_args shape before (w ∷ later) = fault_if (breaks shape before w.text later) (rule_of shape) w.at ++ bad_args shape (before ++ w ∷ []) later
 
--- 13: a location with the same `=` and path as an earlier one
+-- 13: a location with the bytes_eq `=` and path as an earlier one
 
 abbrev pub is_exact : List Word → Bool
 is_exact (w ∷ v ∷ ws) = true
@@ -149,7 +150,7 @@ path_of (w ∷ v ∷ ws) = Some v
 
 abbrev pub has_path : List ℕ → Option Word → Bool
 has_path text None = false
-has_path text (Some v) = same v.text text
+has_path text (Some v) = bytes_eq v.text text
 
 abbrev pub is_same_location : Directive → List ℕ → Directive → Bool
 is_same_location d path e = is_like d e && same_bool (is_exact e.args) (is_exact d.args) && has_path path (path_of e.args)
@@ -187,7 +188,7 @@ has_role ds block = has_line ds block (codes "nchan_publisher") || has_line ds b
 
 abbrev pub is_location : Option Directive → Bool
 is_location None = false
-is_location (Some d) = same d.name.text (codes "location")
+is_location (Some d) = bytes_eq d.name.text (codes "location")
 
 abbrev pub nameless : List Directive → Close → List Fault
 nameless ds c = fault_if (is_location (slice_get ds c.of) && has_role ds c.of && not (has_line ds c.of (codes "nchan_channel_id"))) 14 c.at

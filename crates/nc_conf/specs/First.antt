@@ -15,9 +15,9 @@ abbrev pub IsNotBefore : Fault → Fault → Type 0
 IsNotBefore f g = is_before g f ≡ false
 
 -- none where there is none, else one of them that none is before
-abbrev pub IsFirst : List Fault → Option Fault → Type 0
-IsFirst faults None = faults ≡ []
-IsFirst faults (Some f) = IsIn faults f × AllByRecursion (IsNotBefore f) faults
+abbrev pub IsFirstFault : List Fault → Option Fault → Type 0
+IsFirstFault faults None = faults ≡ []
+IsFirstFault faults (Some f) = IsIn faults f × AllByRecursion (IsNotBefore f) faults
 
 -- the first of a fault and one more
 abbrev pub before : Fault → Fault → Fault

@@ -10,7 +10,7 @@ use Rattle.nc_conf.specs.declared.read.ConfFault.TheVariants.{Rule, NoMemory}
 use Rattle.nc_conf.specs.Syntax.{Item, IsSyntax, directives_of, closes_of, open_behind}
 use Rattle.nc_conf.specs.Reader.{SyntaxAt, words_of, all_faults}
 use Rattle.nc_conf.specs.Faults.{faults_of}
-use Rattle.nc_conf.specs.First.{IsFirst}
+use Rattle.nc_conf.specs.First.{IsFirstFault}
 use Rattle.nc_conf.specs.Config.{config_of}
 
 -- a text's tokens up to its end or a lexical fault, and their syntax
@@ -26,7 +26,7 @@ pub record HasFirst (text : List ℕ) (first : Option Fault) : Type 0 where
   pub broken : Option ℕ
   pub bad : Option ℕ
   pub syntax : HasSyntax text items words broken bad
-  pub is : IsFirst (faults_of (length text) items words broken bad) first
+  pub is : IsFirstFault (faults_of (length text) items words broken bad) first
 
 -- a text without faults has this configuration
 pub record HasConfig (text : List ℕ) (config : ConfigAt) : Type 0 where
@@ -35,7 +35,7 @@ pub record HasConfig (text : List ℕ) (config : ConfigAt) : Type 0 where
   pub broken : Option ℕ
   pub bad : Option ℕ
   pub syntax : HasSyntax text items words broken bad
-  pub faultless : IsFirst (faults_of (length text) items words broken bad) None
+  pub faultless : IsFirstFault (faults_of (length text) items words broken bad) None
   pub is : config ≡ config_of (directives_of 0 [] items)
 
 -- what reading a text answers
@@ -54,7 +54,7 @@ pub record IsReading (text : List ℕ) (s : SyntaxAt) (bad : Option ℕ) : Type 
 
 -- what was read of a text up to a place settles its first fault, where that stands before the place, whatever follows
 abbrev pub Settles : List ℕ → SyntaxAt → Option ℕ → ℕ → Type 0
-Settles text s bad p = (f : Fault) → IsFirst (all_faults (length text) s bad) (Some f) → f.at < p → HasFirst text (Some f)
+Settles text s bad p = (f : Fault) → IsFirstFault (all_faults (length text) s bad) (Some f) → f.at < p → HasFirst text (Some f)
 
 -- a text was read to its end or a lexical fault, or up to a place
 abbrev pub IsPart : List ℕ → SyntaxAt → Option ℕ → Option ℕ → Type 0

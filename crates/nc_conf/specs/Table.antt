@@ -1,5 +1,5 @@
 -- The table of directives.
-use Rattle.std.specs.Prelude.{ℕ, Bool, true, false, List, [], ◌∷◌, codes, if◌then◌else◌, Option, Some, None}
+use Rattle.std.specs.Prelude.{ℕ, Bool, true, false, List, [], ◌∷◌, codes, if◌then◌else◌, Option, Some, None, bytes_eq}
 use Rattle.nc_conf.specs.declared.table.Block.{Block}
 use Rattle.nc_conf.specs.declared.table.Block.TheVariants.{Main, Events, Http, Server, Location}
 use Rattle.nc_conf.specs.declared.table.Standing.{Standing}
@@ -7,7 +7,6 @@ use Rattle.nc_conf.specs.declared.table.Standing.TheVariants.{In, Settings}
 use Rattle.nc_conf.specs.declared.table.Shape.{Shape}
 use Rattle.nc_conf.specs.declared.table.Shape.TheVariants as shapes
 use Rattle.nc_conf.specs.declared.table.Row.{Row}
-use Rattle.nc_conf.specs.Value.{same}
 
 -- a directive that ends at its `;`, and stands once in a block
 abbrev pub line : Standing → ℕ → ℕ → Shape → Row
@@ -58,7 +57,7 @@ rows =
 -- the row of a name in a table
 abbrev pub row_in : List (List ℕ × Row) → List ℕ → Option Row
 row_in [] name = None
-row_in (r ∷ rs) name = if same name r.0 then Some r.1 else row_in rs name
+row_in (r ∷ rs) name = if bytes_eq name r.0 then Some r.1 else row_in rs name
 
 abbrev pub row_of : List ℕ → Option Row
 row_of name = row_in rows name

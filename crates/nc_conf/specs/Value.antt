@@ -1,17 +1,12 @@
 -- What the arguments of directives stand for.
-use Rattle.std.specs.Prelude.{ℕ, ◌+◌, ◌*◌, ◌-◌, Bool, true, false, not, List, [], ◌∷◌, ◌++◌, length, take, drop, codes, if◌then◌else◌, ◌==◌, ◌&&◌, ◌||◌, nat_le, nat_lt, nat_eq, Option, Some, None, fold, slice_index}
+use Rattle.std.specs.Prelude.{ℕ, ◌+◌, ◌*◌, ◌-◌, Bool, true, false, not, List, [], ◌∷◌, ◌++◌, length, take, drop, codes, if◌then◌else◌, ◌==◌, ◌&&◌, ◌||◌, nat_le, nat_lt, Option, Some, None, fold, slice_index, bytes_eq}
 use Rattle.std.specs.List.{list_all, take_while, prefix_len, suffix_len, flat_map, slice_split}
 use Rattle.std.specs.Option.{option_map, option_and_then}
 use Rattle.std.specs.Char.{is_ascii_digit, is_ascii_alphanumeric}
-use Rattle.std.specs.Cmp.Lexicographic.{pointwise}
 use Rattle.nc_types.specs.Config.{ListenAt}
 use Rattle.nc_types.specs.declared.config.IdPart.{IdPart}
 use Rattle.nc_types.specs.declared.config.IdPart.TheVariants.{Plain, Arg}
 use Rattle.nc_types.specs.declared.config.IdText.{IdText}
-
--- two texts have the same bytes
-abbrev pub same : List ℕ → List ℕ → Bool
-same a b = pointwise nat_eq a b
 
 -- numbers
 
@@ -113,7 +108,7 @@ begins_name (b ∷ bs) = is_name_byte b
 
 -- `arg_`, and at least one byte of a name
 abbrev pub begins_arg : List ℕ → Bool
-begins_arg text = same (take 4 text) (codes "arg_") && begins_name (drop 4 text)
+begins_arg text = bytes_eq (take 4 text) (codes "arg_") && begins_name (drop 4 text)
 
 -- each `$` stands before an argument
 abbrev pub is_id : List ℕ → Bool
@@ -135,9 +130,3 @@ parts_of (first ∷ others) = plain_part first ++ flat_map arg_parts others
 -- the parts of a word, which is cut at each `$`
 abbrev pub id_text : List ℕ → IdText
 id_text text = record { parts = parts_of (slice_split is_dollar text) }
-
--- paths
-
-abbrev pub begins_slash : List ℕ → Bool
-begins_slash [] = false
-begins_slash (b ∷ bs) = b == 47

@@ -1,8 +1,7 @@
 -- What is kept of the arguments of a directive, so that a repeated way to subscribe is found.
-use Rattle.std.specs.Prelude.{◌≡◌, ℕ, Bool, true, List, codes, if◌then◌else◌, ◌||◌}
+use Rattle.std.specs.Prelude.{◌≡◌, ℕ, Bool, true, List, codes, if◌then◌else◌, ◌||◌, bytes_eq}
 use Rattle.nc_conf.specs.declared.syntax.Word.{Word}
 use Rattle.nc_conf.specs.declared.judge.Ways.{Ways}
-use Rattle.nc_conf.specs.Value.{same}
 use Rattle.nc_conf.specs.Faults.{is_word, is_again}
 
 -- which of the ways stand among some words
@@ -16,4 +15,4 @@ ways_with ways w = record { longpoll = ways.longpoll || is_word (codes "longpoll
 
 -- a text is no way, or one of these
 abbrev pub refuse : Ways → List ℕ → Bool
-refuse ways text = if same text (codes "longpoll") then ways.longpoll else (if same text (codes "websocket") then ways.websocket else true)
+refuse ways text = if bytes_eq text (codes "longpoll") then ways.longpoll else (if bytes_eq text (codes "websocket") then ways.websocket else true)

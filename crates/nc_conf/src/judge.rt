@@ -4,7 +4,7 @@ ghost use Rattle.nc_conf.specs.Config.{has_name};
 ghost use Rattle.std.specs.List.{list_any, flat_map};
 ghost use Rattle.std.specs.Option.{option_copied, is_some};
 ghost use Rattle.nc_conf.specs.Table.{row_of};
-ghost use Rattle.nc_conf.specs.First.{first_with, IsFirst};
+ghost use Rattle.nc_conf.specs.First.{first_with, IsFirstFault};
 ghost use Rattle.nc_conf.specs.Faults.{kind_of, same_block, is_named, misplaced, is_like, are_enough, repeated, same_bool, too_many, miscounted, is_word, is_again, is_way, is_first_word, is_before_path, is_path_place, breaks_location, breaks, rule_of, bad_args, is_exact, path_of, has_path, is_same_location, again, fault_if, directive_faults, each_directive, has_line, has_role, is_location, nameless, unended, faults_of};
 ghost use Rattle.nc_conf.specs.Reader.{words_of, all_faults};
 ghost use Rattle.nc_conf.specs.Ways.{ways_with, refuse, KnowsWays};
@@ -15,6 +15,7 @@ use crate::syntax::{Close, Directive, Reading, Word};
 use crate::table::{Block, Row, Shape, row_of};
 use crate::value;
 use nc_types::NoMemory;
+use nc_types::text::begins_slash;
 use std::alloc::Global;
 
 /// The kind of the block of that number, or of what is outside of all blocks.
@@ -156,7 +157,7 @@ fn breaks_location(before: &[Word<'_>], text: &[u8], later: &[Word<'_>]) -> bool
     if is_before_path(before, later) {
         text != b"=".as_slice()
     } else {
-        is_path_place(before) && !value::begins_slash(text)
+        is_path_place(before) && !begins_slash(text)
     }
 }
 
@@ -409,7 +410,7 @@ pub fn judge_all<'r, 't>(
     len: usize,
     reading: &'r Reading<'t>,
 ) -> Result<Judged<'r, 't>, NoMemory>
-    ensures first { IfOk result (λ j. IsFirst (all_faults len reading.now.syntax reading.now.bad) j.first) }
+    ensures first { IfOk result (λ j. IsFirstFault (all_faults len reading.now.syntax reading.now.bad) j.first) }
     ensures lines { IfOk result (λ j. j.lines ≡ reading.now.syntax.directives) }
 {
     let directives = reading.syntax.directives();

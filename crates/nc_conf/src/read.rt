@@ -1,6 +1,6 @@
 //! Reading a configuration.
 ghost use Rattle.std.specs.Prelude.{◌≡◌, ◌<◌, Some, IfOk};
-ghost use Rattle.nc_conf.specs.First.{IsFirst};
+ghost use Rattle.nc_conf.specs.First.{IsFirstFault};
 ghost use Rattle.nc_conf.specs.Reader.{all_faults};
 ghost use Rattle.nc_conf.specs.Reading.{IsReading, HasFirst, IsRead};
 ghost use Rattle.nc_conf.specs.declared.fault.Fault.{Fault};
@@ -52,7 +52,7 @@ fn read_whole(alloc: Global, text: &[u8]) -> Result<Config, ConfFault>
 
 /// The first fault of what was read of a text.
 fn first_fault(alloc: Global, len: usize, reading: &Reading<'_>) -> Result<Option<Fault>, NoMemory>
-    ensures { IfOk result (IsFirst (all_faults len reading.now.syntax reading.now.bad)) }
+    ensures { IfOk result (IsFirstFault (all_faults len reading.now.syntax reading.now.bad)) }
 {
     let Judged { first, .. } = judge_all(alloc, len, reading)?;
     Ok(first)

@@ -1,5 +1,5 @@
 //! The directives of a text, up to where the text goes wrong.
-ghost use Rattle.std.specs.Prelude.{◌≡◌, true, None, IfOk, OnOk};
+ghost use Rattle.std.specs.Prelude.{◌≡◌, ◌++◌, ◌∷◌, [], true, None, IfOk, OnOk};
 ghost use Rattle.nc_conf.specs.Syntax.{innermost};
 ghost use Rattle.nc_conf.specs.Reader.{empty, after_word, after_line, after_opening, after_closing, after};
 ghost use Rattle.nc_conf.specs.Reading.{IsPart};
@@ -65,6 +65,21 @@ impl<'t> Model for Syntax<'t> {
     ghost view = { λ s. record { directives = s.directives; closes = s.closes; blocks = reverse s.blocks.items; begun = s.begun; broken = s.broken } };
 }
 
+/// How many arguments are so few that no room is taken for more. Most directives have one or two.
+const FEW: usize = 3;
+
+/// Words and one more behind them.
+fn with_word<'t>(words: List<Word<'t>>, word: Word<'t>) -> Result<List<Word<'t>>, NoMemory>
+    ensures { IfOk result (λ all. all ≡ words.entry ++ word.entry ∷ []) }
+{
+    let mut words = words.into_vec();
+    if words.len() < FEW {
+        words.reserve_exact(1)?;
+    }
+    words.push(word)?;
+    Ok(List::of(words))
+}
+
 impl<'t> Syntax<'t> {
     fn new(alloc: Global) -> Syntax<'t>
         ensures { result ≡ empty }
@@ -100,9 +115,12 @@ impl<'t> Syntax<'t> {
                     args: List::new(alloc),
                 });
             }
-            Some(mut begun) => {
-                begun.args.push(word)?;
-                self.begun = Some(begun);
+            Some(begun) => {
+                let args = with_word(begun.args, word)?;
+                self.begun = Some(Begun {
+                    name: begun.name,
+                    args,
+                });
             }
         }
         Ok(())

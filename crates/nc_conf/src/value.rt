@@ -2,7 +2,7 @@
 ghost use Rattle.std.specs.Prelude.{◌≡◌, ◌≤◌, ◌<◌, length, IsTrue, IfSome};
 ghost use Rattle.std.specs.List.{list_all};
 ghost use Rattle.std.specs.Char.{is_ascii_digit};
-ghost use Rattle.nc_conf.specs.Value.{digits_value, are_digits, whole, if_within, within, number, time_unit, size_unit, in_unit, seconds, size, port_len, port, address, is_name_byte, begins_name, begins_arg, is_id, begins_slash};
+ghost use Rattle.nc_conf.specs.Value.{digits_value, are_digits, whole, if_within, within, number, time_unit, size_unit, in_unit, seconds, size, port_len, port, address, is_name_byte, begins_name, begins_arg, is_id};
 
 use std::marker::Model;
 
@@ -223,14 +223,4 @@ pub fn is_id(text: &[u8]) -> bool
         }
     }
     true
-}
-
-/// Whether a path begins as one.
-pub fn begins_slash(text: &[u8]) -> bool
-    ensures { result ≡ begins_slash text.now }
-{
-    match text {
-        [] => false,
-        [byte, ..] => *byte == b'/',
-    }
 }

@@ -6,12 +6,13 @@ ghost use Rattle.nc_conf_lex.specs.Reading.{LexerAt, Next, Comes, Answers, IsTol
 ghost use Rattle.nc_conf_lex.specs.Scan.{next_at, quoted_at, plain_at, unescape, Gives};
 
 use crate::scan;
-use crate::token::{LexFault, Token, WordText};
+use crate::token::{LexFault, Token};
+use crate::word::WordText;
 use std::alloc::{AllocError, Global};
 use std::marker::Model;
 
 /// A plain word that begins a text at a place, and the place behind it.
-fn plain(at: usize, text: &[u8]) -> Result<(Token<'_>, usize), LexFault>
+fn plain(alloc: Global, at: usize, text: &[u8]) -> Result<(Token<'_>, usize), LexFault>
     requires { at + length text.now < 2 ^ 63 }
     ensures gives { Gives result (plain_at at text.now) }
     ensures within { IfOk result (λ word. word.1 ≤ at + length text.now) }
@@ -22,18 +23,18 @@ fn plain(at: usize, text: &[u8]) -> Result<(Token<'_>, usize), LexFault>
     if let Some(i) = scan::refused(word) {
         return Err(LexFault::Bad { at: at + i });
     }
-    let text = WordText::standing(word);
+    let text = WordText::standing(alloc, word)?;
     Ok((Token::Word { at, text }, at + len))
 }
 
-/// What the inside of a quoted word stands for. Memory is taken only where there is a backslash.
+/// What the inside of a quoted word stands for. It is written anew only where there is a backslash.
 fn unescaped(alloc: Global, sign: u8, inside: &[u8]) -> Result<WordText<'_>, AllocError>
     ensures { IfOk result (λ text. text ≡ unescape sign false inside.now) }
 {
     if scan::has_backslash(inside) {
-        Ok(WordText::written(scan::unescape(alloc, sign, inside)?))
+        WordText::written(alloc, scan::unescape(alloc, sign, inside)?)
     } else {
-        Ok(WordText::standing(inside))
+        WordText::standing(alloc, inside)
     }
 }
 
@@ -79,7 +80,7 @@ impl<'t> Model for Lexer<'t> {
 }
 
 impl<'t> Lexer<'t> {
-    /// A lexer at the text's first byte. The words that it gives stand in the text, or take their memory from `alloc`.
+    /// A lexer at the text's first byte. The longer words that it gives take memory from `alloc`.
     pub fn new(alloc: Global, text: &'t [u8]) -> Lexer<'t>
         ensures text { result.text ≡ text.now }
         ensures at { result.at ≡ 0 }
@@ -126,7 +127,7 @@ impl<'t> Lexer<'t> {
             [b'}', ..] => (Token::Closing { at }, at + 1),
             [b'"', text @ ..] => quoted(self.alloc, at, b'"', text)?,
             [b'\'', text @ ..] => quoted(self.alloc, at, b'\'', text)?,
-            [_, ..] => plain(at, rest)?,
+            [_, ..] => plain(self.alloc, at, rest)?,
         };
         self.at = behind;
         Ok(Some(token))
