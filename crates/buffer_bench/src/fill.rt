@@ -14,9 +14,28 @@ pub(crate) fn strewn(number: u64, size: u64) -> u64 {
     number.wrapping_mul(STRIDE).checked_rem(size).unwrap_or(0)
 }
 
-/// A buffer of so many entries, of [`MOST_ENTRIES`] at most: their ids are 1:0, 2:0 and so on, and they never expire, or each at
-/// a second of its own.
-pub(crate) fn filled(alloc: Global, size: u64, expire: bool) -> Result<Buffer, NoMemory> {
+/// When the entries of a buffer expire, each at a second of its own.
+#[derive(Clone, Copy)]
+pub(crate) enum Expiry {
+    /// Never.
+    Never,
+    /// In the order in which they were stored.
+    InOrder,
+    /// In another order.
+    Strewn,
+}
+
+/// The second at which an entry expires behind so many others, where 0 is never.
+fn second_of(expiry: Expiry, before: u64, size: u64) -> u64 {
+    match expiry {
+        Expiry::Never => 0,
+        Expiry::InOrder => before.saturating_add(1),
+        Expiry::Strewn => strewn(before, size).saturating_add(1),
+    }
+}
+
+/// A buffer of so many entries, of [`MOST_ENTRIES`] at most: their ids are 1:0, 2:0 and so on.
+pub(crate) fn filled(alloc: Global, size: u64, expiry: Expiry) -> Result<Buffer, NoMemory> {
     let mut buffer = Buffer::new(alloc);
     for before in 0..size.min(MOST_ENTRIES) {
         let entry = Entry {
@@ -25,11 +44,7 @@ pub(crate) fn filled(alloc: Global, size: u64, expire: bool) -> Result<Buffer, N
                 tag: 0,
             },
             slot: 0,
-            expires: if expire {
-                strewn(before, size).saturating_add(1)
-            } else {
-                0
-            },
+            expires: second_of(expiry, before, size),
             grants: 0,
         };
         buffer.store(entry)?;

@@ -1,9 +1,17 @@
 //! The program `buffer_bench`: calls on large and small buffers, counted, to be timed.
 //!
-//! `buffer_bench WORK SIZE ROUNDS` fills a buffer with SIZE entries in each round and then works on it: `store` does no more,
-//! `look` looks 2 * SIZE times past an id, `expire` takes out each entry at the second at which it expires, and `drop` takes out
-//! the oldest until none is left. It prints how many of these calls answered as they should.
-//! The status is 0; 2 where the words are no such work; 3 where there was no memory.
+//! `buffer_bench WORK SIZE ROUNDS ..` does one work after the other, each three words. In each of its rounds a buffer is filled
+//! with SIZE entries, and then worked on:
+//!
+//! - `store` does no more;
+//! - `look` looks 2 * SIZE times past an id, in no order;
+//! - `follow` looks 2 * SIZE times too, each time past the id that the look before found;
+//! - `expire` takes out each entry at the second at which it expires, in another order than that of the ids;
+//! - `age` does so where entries expire in the order in which they were stored;
+//! - `drop` takes out the oldest until none is left.
+//!
+//! It prints of each work how many of its calls answered as they should.
+//! The status is 0; 2 where the words are no such works; 3 where there was no memory.
 #![tactic(auto)]
 
 mod fill;
@@ -17,7 +25,7 @@ use std::process::ExitCode;
 use std::{env, io};
 use work::{Work, right_calls};
 
-/// What the command line asks for.
+/// What three words of the command line ask for.
 #[derive(Clone, Copy)]
 struct Task {
     work: Work,
@@ -25,30 +33,30 @@ struct Task {
     rounds: u64,
 }
 
-fn work_of(word: Option<String>) -> Option<Work> {
-    let word = word?;
+fn work_of(word: &String) -> Option<Work> {
     match word.as_bytes() {
         b"store" => Some(Work::Store),
         b"look" => Some(Work::Look),
+        b"follow" => Some(Work::Follow),
         b"expire" => Some(Work::Expire),
+        b"age" => Some(Work::Age),
         b"drop" => Some(Work::Drop),
         _ => None,
     }
 }
 
-fn number_of(word: Option<String>) -> Option<u64> {
-    read_decimal(word?.as_bytes(), MOST_ENTRIES)
+fn number_of(word: &String) -> Option<u64> {
+    read_decimal(word.as_bytes(), MOST_ENTRIES)
 }
 
-/// The task of the command line.
-fn task_of(rt: &HostRuntime) -> io::Result<Option<Task>> {
-    let mut words = env::args(rt)?.skip(1);
-    let work = work_of(words.next());
-    let size = number_of(words.next());
-    let rounds = number_of(words.next());
-    match (work, size, rounds) {
-        (Some(work), Some(size), Some(rounds)) => Ok(Some(Task { work, size, rounds })),
-        _ => Ok(None),
+fn task_of(words: &[String]) -> Option<Task> {
+    match words {
+        [work, size, rounds] => Some(Task {
+            work: work_of(work)?,
+            size: number_of(size)?,
+            rounds: number_of(rounds)?,
+        }),
+        _ => None,
     }
 }
 
@@ -62,15 +70,26 @@ fn right_in_all(alloc: Global, task: &Task) -> Result<u64, NoMemory> {
 }
 
 fn main(rt: HostRuntime) -> io::Result<ExitCode> {
-    let Some(task) = task_of(&rt)? else {
-        println!(rt; "usage: buffer_bench store | look | expire | drop SIZE ROUNDS")?;
-        return Ok(ExitCode::from(2));
-    };
-    match right_in_all(rt.alloc(), &task) {
-        Ok(right) => {
-            println!(rt; "size={} rounds={} right={right}", task.size, task.rounds)?;
-            Ok(ExitCode::from(0))
-        }
-        Err(NoMemory) => Ok(ExitCode::from(3)),
+    let mut words = Vec::new(rt.alloc());
+    for word in env::args(&rt)?.skip(1) {
+        words.push(word)?;
     }
+    for three in words.chunks(3) {
+        let Some(task) = task_of(three) else {
+            println!(rt;
+                "usage: buffer_bench store | look | follow | expire | age | drop SIZE ROUNDS .."
+            )?;
+            return Ok(ExitCode::from(2));
+        };
+        let Ok(right) = right_in_all(rt.alloc(), &task) else {
+            return Ok(ExitCode::from(3));
+        };
+        println!(rt;
+            "{} size={} rounds={} right={right}",
+            task.work.word(),
+            task.size,
+            task.rounds
+        )?;
+    }
+    Ok(ExitCode::from(0))
 }

@@ -1,16 +1,41 @@
 //! The works, and how many of their calls answered as they should.
-use crate::fill::{MOST_ENTRIES, filled, strewn};
+use crate::fill::{Expiry, MOST_ENTRIES, filled, strewn};
 use nc_buffer::Buffer;
 use nc_types::{MsgId, NoMemory};
 use std::alloc::Global;
 
 /// What is done with a buffer once it is filled.
-#[derive(Clone, Copy, PartialEq, Eq)]
+#[derive(Clone, Copy)]
 pub(crate) enum Work {
     Store,
     Look,
+    Follow,
     Expire,
+    Age,
     Drop,
+}
+
+impl Work {
+    /// Its name on the command line.
+    pub(crate) fn word(self) -> &'static str {
+        match self {
+            Work::Store => "store",
+            Work::Look => "look",
+            Work::Follow => "follow",
+            Work::Expire => "expire",
+            Work::Age => "age",
+            Work::Drop => "drop",
+        }
+    }
+
+    /// When the entries that it works on expire.
+    fn expiry(self) -> Expiry {
+        match self {
+            Work::Expire => Expiry::Strewn,
+            Work::Age => Expiry::InOrder,
+            Work::Store | Work::Look | Work::Follow | Work::Drop => Expiry::Never,
+        }
+    }
 }
 
 /// Looks twice as often as there are entries, past ids in another order. The oldest entry past the id t:0 stands at the place t.
@@ -21,6 +46,28 @@ fn right_looks(buffer: &Buffer, size: u64) -> u64 {
         if buffer.look(&MsgId { time, tag: 0 }) == Some(time as usize) {
             right = right.saturating_add(1);
         }
+    }
+    right
+}
+
+/// Looks twice as often as there are entries, as a subscriber who follows does: each time past the id that the look before found,
+/// and from the oldest on again behind the last.
+fn right_follows(buffer: &Buffer, size: u64) -> u64 {
+    let mut right = 0u64;
+    let mut time = 0u64;
+    for _ in 0..size.saturating_mul(2) {
+        let after = MsgId {
+            time: time.min(MOST_ENTRIES),
+            tag: 0,
+        };
+        let Some(place) = buffer.look(&after) else {
+            return right;
+        };
+        if place as u64 == time {
+            right = right.saturating_add(1);
+        }
+        let found = (place as u64).saturating_add(1);
+        time = if found < size { found } else { 0 };
     }
     right
 }
@@ -56,11 +103,12 @@ fn right_dropped(buffer: &mut Buffer, size: u64) -> u64 {
 
 /// Fills a buffer and works on it.
 pub(crate) fn right_calls(alloc: Global, work: Work, size: u64) -> Result<u64, NoMemory> {
-    let mut buffer = filled(alloc, size, work == Work::Expire)?;
+    let mut buffer = filled(alloc, size, work.expiry())?;
     match work {
         Work::Store => Ok(buffer.len() as u64),
         Work::Look => Ok(right_looks(&buffer, size)),
-        Work::Expire => Ok(right_expired(&mut buffer, size)),
+        Work::Follow => Ok(right_follows(&buffer, size)),
+        Work::Expire | Work::Age => Ok(right_expired(&mut buffer, size)),
         Work::Drop => Ok(right_dropped(&mut buffer, size)),
     }
 }

@@ -5,13 +5,13 @@ use Rattle.nc_buffer.specs.declared.entry.Entry.{Entry}
 use Rattle.nc_buffer.specs.declared.mark.Mark.{Mark}
 use Rattle.nc_buffer.specs.declared.mark.Sought.{Sought}
 use Rattle.nc_buffer.specs.declared.mark.Sought.TheVariants.{Any}
-use Rattle.nc_buffer.specs.Buffer.{IsRising, StaysRising, IsPastAll, LosesTaken, without_first, oldest, without_oldest, granted, with_grant}
+use Rattle.nc_buffer.specs.Buffer.{IsRising, StaysRising, IsPastAll, LosesTaken, is_spent, without_first, oldest, without_oldest, granted, with_grant}
 use Rattle.nc_buffer.specs.Marks.{no_mark, mark_of, passes, tells, kept_before, kept, Shows}
 use Rattle.nc_buffer.specs.Index.{IsIndexed}
 use Rattle.nc_buffer.proofs.Firsts.{none-leaves}
 use Rattle.nc_buffer.proofs.Rising.{rising-push, rising-without, rising-grant}
 use Rattle.nc_buffer.proofs.BufferLaws.{takes-one}
-use Rattle.nc_buffer.proofs.Slots.{shows-set, shows-push, shows-le, kept-push, found-first, found-entry, missed-none, grant-at}
+use Rattle.nc_buffer.proofs.Slots.{shows-set, shows-push, shows-le, kept-push, found-first, found-entry, missed-none, grant-at, same-mark}
 
 -- an entry that is taken out
 pub record Takes (w : Sought) (slots : List (Option Entry)) (marks : List Mark) (leaf : ℕ) : Type 0 where
@@ -80,6 +80,13 @@ grants slots marks leaf place e i within is at =
       counted = counted;
       rising = record { before = i.rising; after = rises };
     }
+
+-- a grant that doesn't spend the entry leaves its mark
+pub mark-stays : (slots : List (Option Entry)) (marks : List Mark) (leaf : ℕ) (e : Entry) → Shows slots marks → get_or slots leaf None ≡ Some e → is_spent (granted e) ≡ false → set marks leaf (mark_of (granted e)) ≡ marks
+mark-stays slots marks leaf e shown is unspent =
+    let was : is_spent e ≡ false = grind (arith, unspent) in
+    let same : mark_of (granted e) ≡ mark_of e = ap (λ b. record { kept = 1; soonest = e.expires; spent = b; latest = e.id }) (unspent ∙ sym was) in
+    ap (set marks leaf) same ∙ same-mark slots marks leaf e shown is
 
 -- one entry fewer where one is taken out
 pub loses : (test : Entry → Bool) (es : List Entry) → LosesTaken (find test es) es (without_first test es)

@@ -9,7 +9,7 @@ use Rattle.nc_buffer.specs.declared.entry.Entry.{Entry}
 use Rattle.nc_buffer.specs.declared.mark.Mark.{Mark}
 use Rattle.nc_buffer.specs.declared.mark.Sought.{Sought}
 use Rattle.nc_buffer.specs.Buffer.{without_first, granted, with_grant}
-use Rattle.nc_buffer.specs.Marks.{no_mark, mark_in, mark_at, passes, tells, kept_before, kept, Shows}
+use Rattle.nc_buffer.specs.Marks.{no_mark, mark_of, mark_in, mark_at, passes, tells, kept_before, kept, Shows}
 use Rattle.nc_buffer.proofs.Tells.{tells-of}
 use Rattle.nc_buffer.proofs.Leaves.{kept-more}
 
@@ -223,6 +223,13 @@ entry-at (None ∷ ss) (m ∷ ms) zero e h is = absurd cc
 entry-at (Some x ∷ ss) (m ∷ ms) zero e h is = is
 entry-at (None ∷ ss) (m ∷ ms) (suc k) e h is = ap (slice_get (kept ss)) (step-none m ms k (ap (λ x. x.kept) h.0)) ∙ entry-at ss ms k e h.1 is
 entry-at (Some x ∷ ss) (m ∷ ms) (suc k) e h is = ap (slice_get (x ∷ kept ss)) (step-over m ms k 1 (ap (λ x. x.kept) h.0) ∙ behind (kept_before k ms)) ∙ entry-at ss ms k e h.1 is
+
+-- the mark of an entry stands at its slot
+pub same-mark : (slots : List (Option Entry)) (ms : List Mark) (leaf : ℕ) (e : Entry) → Shows slots ms → get_or slots leaf None ≡ Some e → set ms leaf (mark_of e) ≡ ms
+same-mark [] ms leaf e h is = absurd cc
+same-mark (s ∷ ss) [] leaf e h is = absurd h
+same-mark (s ∷ ss) (m ∷ ms) zero e h is = ap (λ x. x ∷ ms) (ap mark_in (sym is) ∙ sym h.0)
+same-mark (s ∷ ss) (m ∷ ms) (suc k) e h is = ap (λ l. m ∷ l) (same-mark ss ms k e h.1 is)
 
 pub grant-at : (slots : List (Option Entry)) (ms : List Mark) (leaf : ℕ) (e : Entry) → Shows slots ms → get_or slots leaf None ≡ Some e → kept (set slots leaf (Some (granted e))) ≡ with_grant (kept_before leaf ms) (kept slots)
 grant-at [] ms leaf e h is = absurd cc

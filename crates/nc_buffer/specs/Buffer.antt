@@ -1,7 +1,7 @@
 -- Buffers: lists of entries, the oldest first.
-use Rattle.std.specs.Prelude.{◌≡◌, ℕ, zero, suc, ◌+◌, Bool, not, nat_le, List, [], ◌∷◌, if◌then◌else◌, ◌==◌, ◌&&◌, Option, None, Some, drop, length}
+use Rattle.std.specs.Prelude.{◌≡◌, ℕ, zero, suc, ◌+◌, Bool, nat_le, List, [], ◌∷◌, if◌then◌else◌, Option, None, Some, drop, length}
 use Rattle.std.specs.List.{AllByRecursion, position, slice_get}
-use Rattle.nc_types.specs.Id.{Id, IsPast, is_past}
+use Rattle.nc_types.specs.Id.{Id, IsPast, is_past, has_come}
 use Rattle.nc_buffer.specs.declared.entry.Entry.{Entry}
 
 -- an id is past each of the kept ones
@@ -25,7 +25,7 @@ LosesTaken (Some e) old new = length old ≡ length new + 1
 
 -- an entry that expires at or before a second; at 0 it never does
 abbrev pub is_expired : ℕ → Entry → Bool
-is_expired now e = not (e.expires == 0) && nat_le e.expires now
+is_expired now e = has_come e.expires now
 
 -- a spent entry: it has as many grants as one can have
 abbrev pub is_spent : Entry → Bool

@@ -117,7 +117,7 @@ impl Buffer {
         Some(found.place)
     }
 
-    /// Counts one grant more of the entry at a place.
+    /// Counts one grant more of the entry at a place. Its mark changes with the last grant alone.
     pub fn count_grant(&mut self, place: usize)
         requires place { place < length self.old }
         requires unspent { IfSome (slice_get self.old place) (λ e. e.grants < 4294967295) }
@@ -128,7 +128,9 @@ impl Buffer {
         let mut entry = entry_in(&self.slots, leaf);
         entry.grants += 1;
         self.slots[leaf] = Some(entry);
-        self.tree.put(leaf, Mark::of(&entry));
+        if entry.is_spent() {
+            self.tree.put(leaf, Mark::of(&entry));
+        }
     }
 
     /// Takes out the oldest entry that is sought, if there is one.
