@@ -1,14 +1,15 @@
 -- What a reader answers behind its last step.
-use Rattle.std.proofs.Common.{◌≡◌, ℕ, true, false, List, drop, refl, subst}
-use Rattle.nc_http_in.specs.Held.{Part, LeadsFrom, Answers}
+use Rattle.std.proofs.Common.{◌≡◌, ℕ, true, false, List, ◌++◌, drop, refl, subst}
+use Rattle.nc_http_in.specs.Held.{Part, IsItemFrom, LeadsFrom, Answers}
 use Rattle.nc_http_in.specs.Answered.{HasOneLines}
 use Rattle.nc_http_in.specs.Answering.{stage_of, next_of, left_of, is_short}
 use Rattle.nc_http_in.specs.declared.next.Next.{Next}
+use Rattle.nc_http_in.specs.declared.next.Next.TheVariants.{More}
 use Rattle.nc_http_in.specs.declared.stage.Stage.{Stage}
 use Rattle.nc_http_in.specs.declared.stage.Found.{Found}
 use Rattle.nc_http_in.specs.declared.stage.Found.TheVariants as founds
 use Rattle.nc_http_in.specs.declared.stage.Turn.{Turn}
-use Rattle.nc_http_in.specs.Reading.{part_of, Notes, IsSettled, IsEndOfTurns}
+use Rattle.nc_http_in.specs.Reading.{part_of, Notes, StillWaits, IsSettled, IsEndOfTurns}
 
 -- what is kept and answered of what was found
 notes_of : (part : Part) (bytes rest : List ℕ) (found : Found) → IsSettled part bytes rest found → Notes (stage_of found) (left_of found rest)
@@ -57,3 +58,7 @@ goes_on part bytes kept left turn stage ends cut is there e =
 
 pub ends_from : (stage first : Stage) (text bytes : List ℕ) (turn : Turn) → first ≡ stage → text ≡ bytes → IsEndOfTurns (part_of first) text turn → IsEndOfTurns (part_of stage) bytes turn
 ends_from stage first text bytes turn e f ends = subst (λ (s : Stage). IsEndOfTurns (part_of s) bytes turn) e (subst (λ (l : List ℕ). IsEndOfTurns (part_of first) l turn) f ends)
+
+-- where the same part is next and more bytes are wanted
+pub still_answers : (old new : Stage) (bytes : List ℕ) → StillWaits old new bytes → Answers (record { part = part_of old; behind = bytes }) (record { part = part_of new; behind = bytes }) More
+still_answers old new bytes w = (w.2, λ more i p. subst (λ (part : Part). IsItemFrom part (bytes ++ more) i) w.1 p)

@@ -14,7 +14,7 @@ use Rattle.nc_http_in.specs.Items.{Item, whole, refused, Within, IsClosed, Sized
 use Rattle.nc_http_in.specs.Held.{counted, line, chunk, trailer, IsItemFrom, LeadsFrom}
 use Rattle.nc_http_in.specs.declared.stage.Stage.TheVariants as stages
 use Rattle.nc_http_in.specs.declared.stage.Found.TheVariants as founds
-use Rattle.nc_http_in.specs.Reading.{IsTurn, turn_on, turn_refused, turn_behind_line}
+use Rattle.nc_http_in.specs.Reading.{IsTurn, StillWaits, turn_on, turn_refused, turn_behind_line}
 use Rattle.nc_http_in.proofs.Stays.{closed_stays}
 use Rattle.nc_http_in.proofs.Steps.{stays_there}
 
@@ -113,3 +113,17 @@ trailer_long q bytes end long = rw end (inl (long, refl))
 pub trailer_waits : (q : Request) (bytes : List ℕ) (place : Place) → trailer_end bytes ≡ None → place ≡ place_over LineStart bytes → length bytes < 16384 → IsTurn (trailer q) bytes (record { taken = 0; found = founds.Waits (stages.Trailer q (length bytes) place) })
 trailer_waits q bytes place end is short =
     (omega arith, ((seen_all LineStart (length bytes) place bytes refl end is, stays_there (trailer q) bytes), rw end (inr (short, refl))))
+
+-- ---- where more bytes are wanted of the same part
+
+pub body_still : (q : Request) (need : ℕ) (bytes : List ℕ) → length bytes < need → StillWaits (stages.Body q need) (stages.Body q need) bytes
+body_still q need bytes short = (tt, refl, inr (short, refl))
+
+pub line_still : (q : Request) (seen : ℕ) (bytes : List ℕ) → line_end bytes ≡ None → length bytes < 1024 → length q.body ≤ 65536 → StillWaits (stages.Line q seen) (stages.Line q (length bytes)) bytes
+line_still q seen bytes end short fits = ((seen_line_all (length bytes) bytes refl end, fits), refl, (suc zero, rw end (inr (short, refl))))
+
+pub data_still : (q : Request) (size : ℕ) (bytes : List ℕ) → length q.body + size ≤ 65536 → length bytes < size + 2 → StillWaits (stages.Data q size) (stages.Data q size) bytes
+data_still q size bytes fits short = (fits, refl, (zero, inr (inr (short, refl))))
+
+pub trailer_still : (q : Request) (seen : ℕ) (place next : Place) (bytes : List ℕ) → trailer_end bytes ≡ None → next ≡ place_over LineStart bytes → length bytes < 16384 → StillWaits (stages.Trailer q seen place) (stages.Trailer q (length bytes) next) bytes
+trailer_still q seen place next bytes end is short = (seen_all LineStart (length bytes) next bytes refl end is, refl, rw end (inr (short, refl)))

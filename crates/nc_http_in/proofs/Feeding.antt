@@ -7,7 +7,7 @@ use Rattle.nc_http_head.specs.declared.ends.Place.TheVariants.{Start as LineStar
 use Rattle.nc_http_head.proofs.Continued.{seen_stays, seen_line_stays}
 use Rattle.nc_http_in.specs.Items.{Item, whole, refused, neither, IsItem}
 use Rattle.nc_http_in.specs.Lists.{Begins, End, bad, unended, IsEnd, Items}
-use Rattle.nc_http_in.specs.Held.{Part, begun, counted, line, chunk, trailer, over, Held, IsItemFrom, fresh, is_over, fed, GoesOn, Answers, StandsFor, HasRead, HasLeft, Tells}
+use Rattle.nc_http_in.specs.Held.{Part, begun, counted, line, chunk, trailer, over, Held, IsItemFrom, fresh, is_over, fed, GoesOn, Answers, StandsFor, HasRead, HasLeft, AnswerTells}
 use Rattle.nc_http_in.specs.declared.next.Next.{Next}
 use Rattle.nc_http_in.specs.declared.next.Next.TheVariants.{Request as Asked, More, Bad}
 use Rattle.nc_http_in.specs.declared.stage.Stage.{Stage}
@@ -108,7 +108,7 @@ item_now held rest i s p = now_from begun held.part rest held.behind s i p
 stands_over : (rest : List ℕ) (status : ℕ) → IsItem rest (refused status) → StandsFor (record { part = over status; behind = [] }) rest
 stands_over rest status it more i e = subst (λ (j : Item). IsItem (rest ++ more) j) (sym e) (item_stays rest more (refused status) (λ is. cc is) it)
 
-pub tells_next : (old new : Held) (next : Next) (bytes : List ℕ) (requests : List Request) → HasRead old bytes requests → Answers old new next → Tells bytes requests new next
+pub tells_next : (old new : Held) (next : Next) (bytes : List ℕ) (requests : List Request) → HasRead old bytes requests → Answers old new next → AnswerTells bytes requests new next
 tells_next old new (Asked q) bytes requests r a = (
   new.behind,
   begins_asked bytes requests r.0 q new.behind r.1 (item_now old r.0 (whole q new.behind) r.2 a.0),

@@ -17,7 +17,7 @@ use Rattle.nc_http_in.specs.Bodies.{with_body}
 use Rattle.nc_http_in.specs.Held.{begun}
 use Rattle.nc_http_in.specs.declared.stage.Stage.TheVariants as stages
 use Rattle.nc_http_in.specs.declared.stage.Found.TheVariants as founds
-use Rattle.nc_http_in.specs.Reading.{IsBegun, IsTurn, turn_behind_head}
+use Rattle.nc_http_in.specs.Reading.{IsBegun, IsTurn, StillWaits, turn_behind_head}
 use Rattle.nc_http_in.proofs.Blanks.{begun-append}
 use Rattle.nc_http_in.proofs.Steps.{stays_there}
 
@@ -36,6 +36,10 @@ head_long bytes b end long = head_item bytes (refused 400) b (rw end (inl (long,
 pub head_waits : (bytes : List ℕ) (place : Place) → IsBegun bytes → head_end bytes ≡ None → place ≡ place_over Inside bytes → length bytes < 16384 → IsTurn begun bytes (record { taken = 0; found = founds.Waits (stages.Head (length bytes) place) })
 head_waits bytes place b end is short =
     (omega arith, (((b, seen_all Inside (length bytes) place bytes refl end is), stays_there begun bytes), head_item bytes neither b (rw end (inr (short, refl)))))
+
+pub head_still : (bytes : List ℕ) (seen : ℕ) (place next : Place) → IsBegun bytes → head_end bytes ≡ None → next ≡ place_over Inside bytes → length bytes < 16384 → StillWaits (stages.Head seen place) (stages.Head (length bytes) next) bytes
+head_still bytes seen place next b end is short =
+    ((b, seen_all Inside (length bytes) next bytes refl end is), refl, head_item bytes neither b (rw end (inr (short, refl))))
 
 pub head_short : (bytes : List ℕ) → IsBegun bytes → IsTurn begun bytes (record { taken = 0; found = founds.Short (stages.Head 0 Inside) })
 head_short bytes b = (omega arith, ((b, (omega arith, refl, refl)), stays_there begun bytes))

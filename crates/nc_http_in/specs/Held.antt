@@ -80,7 +80,7 @@ abbrev pub HasLeft : Held → List ℕ → List Request → Type 0
 HasLeft held bytes requests = Begins bytes requests held.behind × (held.part ≡ begun)
 
 -- what an answer says of all bytes that were fed: the next request, or that there is none and how they end
-abbrev pub Tells : List ℕ → List Request → Held → Next → Type 0
-Tells bytes requests new (Asked q) = HasRead new bytes (requests ++ q ∷ [])
-Tells bytes requests new More = Items bytes requests unended × HasRead new bytes requests
-Tells bytes requests new (Bad status) = Items bytes requests (bad status) × HasRead new bytes requests
+abbrev pub AnswerTells : List ℕ → List Request → Held → Next → Type 0
+AnswerTells bytes requests new (Asked q) = HasRead new bytes (requests ++ q ∷ [])
+AnswerTells bytes requests new More = Items bytes requests unended × HasRead new bytes requests
+AnswerTells bytes requests new (Bad status) = Items bytes requests (bad status) × HasRead new bytes requests

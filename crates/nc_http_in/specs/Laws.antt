@@ -3,7 +3,7 @@ use Rattle.std.specs.Prelude.{◌≡◌, ◌≢◌, ℕ, List, [], ◌∷◌, �
 use Rattle.nc_types.specs.declared.request.Request.{Request}
 use Rattle.nc_http_in.specs.Items.{Item, neither, IsItem, followed}
 use Rattle.nc_http_in.specs.Lists.{End, Items}
-use Rattle.nc_http_in.specs.Held.{Held, fresh, fed, GoesOn, Answers, HasRead, HasLeft, Tells}
+use Rattle.nc_http_in.specs.Held.{Held, fresh, fed, GoesOn, Answers, HasRead, HasLeft, AnswerTells}
 use Rattle.nc_http_in.specs.declared.next.Next.{Next}
 use Rattle.nc_http_in.specs.declared.next.Next.TheVariants.{Request as Asked}
 
@@ -29,7 +29,7 @@ ReadsPiece = (held : Held) (bytes : List ℕ) (requests : List Request) (piece :
 
 -- an answer tells the next item of all bytes
 abbrev pub TellsNext : Type 0
-TellsNext = (old new : Held) (next : Next) (bytes : List ℕ) (requests : List Request) → HasRead old bytes requests → Answers old new next → Tells bytes requests new next
+TellsNext = (old new : Held) (next : Next) (bytes : List ℕ) (requests : List Request) → HasRead old bytes requests → Answers old new next → AnswerTells bytes requests new next
 
 -- what goes on has read what was read
 abbrev pub StaysRead : Type 0

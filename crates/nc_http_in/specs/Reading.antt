@@ -69,6 +69,10 @@ IsSettled part bytes rest (founds.Short stage) = Reaches part bytes stage rest
 abbrev pub IsEndOfTurns : Part → List ℕ → Turn → Type 0
 IsEndOfTurns part bytes turn = (turn.taken ≤ length bytes) × IsSettled part bytes (drop turn.taken bytes) turn.found
 
+-- the same part is next, of which these bytes are not all, and what the stage notes of them is so
+abbrev pub StillWaits : Stage → Stage → List ℕ → Type 0
+StillWaits old new bytes = Notes new bytes × (part_of new ≡ part_of old) × IsItemFrom (part_of old) bytes neither
+
 -- ---- what is done behind a head and behind a chunk line, of so many bytes
 
 abbrev pub turn_on : ℕ → Stage → Turn

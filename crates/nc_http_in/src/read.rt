@@ -1,12 +1,12 @@
 //! The steps of reading an item: each looks for the end of one part of it.
-ghost use Rattle.std.specs.Prelude.{◌≡◌, ◌+◌, ◌≤◌, [], length, take, drop, Some};
+ghost use Rattle.std.specs.Prelude.{◌≡◌, ◌+◌, ◌≤◌, [], length, take, drop, Some, IsTrue, IsFalse};
 ghost use Rattle.nc_http_head.specs.Ends.{head_end, line_end, Seen, SeenLine};
 ghost use Rattle.nc_http_head.specs.Framing.{framing_of};
 ghost use Rattle.nc_http_head.specs.Heads.{AreOneLine};
 ghost use Rattle.nc_http_head.specs.declared.ends.Place.TheVariants.{Start as LineStart, Inside};
 ghost use Rattle.nc_http_in.specs.Bodies.{with_body};
 ghost use Rattle.nc_http_in.specs.Held.{begun, counted, line, chunk, trailer};
-ghost use Rattle.nc_http_in.specs.Reading.{part_of, Notes, IsBegun, IsTurn, IsEndOfTurns, turn_behind_head, turn_behind_line};
+ghost use Rattle.nc_http_in.specs.Reading.{part_of, Notes, StillWaits, IsBegun, IsTurn, IsEndOfTurns, turn_behind_head, turn_behind_line};
 
 use crate::draft::Draft;
 use crate::stage::{Found, Stage, Turn};
@@ -315,5 +315,52 @@ pub fn read_on(alloc: Global, text: &[u8], first: Stage) -> Turn
             Found::Refused(status) => return settled(from, Found::Refused(status)),
             Found::Short(next) => return settled(from, Found::Short(next)),
         }
+    }
+}
+
+/// Whether these bytes are not yet all of the part that is next: then it is noted how far they were looked through, and
+/// nothing is moved.
+pub fn still_waits(stage: &mut Stage, text: &[u8]) -> bool
+    requires { Notes stage.old text.now }
+    ensures waits { IsTrue result → StillWaits stage.old stage.new text.now }
+    ensures same { IsFalse result → stage.new ≡ stage.old }
+{
+    match stage {
+        Stage::Start => false,
+        Stage::Head { seen, place } => match end_behind(text, Place::Inside, *seen, *place) {
+            Ending::At(_) => false,
+            Ending::Open(next) => {
+                if text.len() >= HEAD {
+                    return false;
+                }
+                *seen = text.len();
+                *place = next;
+                true
+            }
+        },
+        Stage::Body { need, .. } => text.len() < *need,
+        Stage::Line { seen, .. } => match line_behind(text, *seen) {
+            Some(_) => false,
+            None => {
+                if text.len() >= LINE {
+                    return false;
+                }
+                *seen = text.len();
+                true
+            }
+        },
+        Stage::Data { size, .. } => text.len() < *size + 2,
+        Stage::Trailer { seen, place, .. } => match end_behind(text, Place::Start, *seen, *place) {
+            Ending::At(_) => false,
+            Ending::Open(next) => {
+                if text.len() >= HEAD {
+                    return false;
+                }
+                *seen = text.len();
+                *place = next;
+                true
+            }
+        },
+        Stage::Bad { .. } => false,
     }
 }

@@ -6,7 +6,7 @@ ghost use Rattle.nc_http_in.specs.Answering.{stage_of, next_of, left_of, is_shor
 
 use crate::next::Next;
 use crate::pending::Pending;
-use crate::read::read_on;
+use crate::read::{read_on, still_waits};
 use crate::stage::{Found, Stage};
 use nc_types::{Bytes, NoMemory};
 use std::alloc::Global;
@@ -127,6 +127,10 @@ impl Reader {
         ensures lines { IfOk result HasOneLines }
         ensures err { OnErr result (GoesOn self.old self.new) }
     {
+        if still_waits(&mut self.stage, self.pending.as_slice()) {
+            self.pending.settle();
+            return Ok(Next::More);
+        }
         let stage = mem::replace(&mut self.stage, Stage::Start);
         let turn = read_on(self.pending.allocator(), self.pending.as_slice(), stage);
         self.pending.take_off(turn.taken);
