@@ -5,7 +5,7 @@ ghost use Rattle.std.specs.Prelude.{◌≡◌, ◌∷◌, ◌++◌, [], IfErr, O
 ghost use Rattle.nc_grammar.specs.Whole.{IsLine};
 ghost use Rattle.nc_journal_read.specs.BadLine.{IsBadLine};
 ghost use Rattle.nc_journal_read.specs.Fit.{EventFits};
-ghost use Rattle.nc_journal.specs.Line.{line as line_text};
+ghost use Rattle.nc_journal.specs.EventLine.{line as line_text};
 ghost use Rattle.nc_journal.specs.declared.event.Event.{Event as EventOf};
 
 use nc_journal::{Event, line_of};

@@ -1,17 +1,12 @@
 -- The values and items of the fields of a request's head.
-use Rattle.std.specs.Prelude.{ℕ, ◌-◌, Bool, List, [], ◌∷◌, length, take, drop, ◌==◌, ◌||◌, Option, Some, None, nat_eq, map}
-use Rattle.std.specs.Cmp.Lexicographic.{pointwise}
+use Rattle.std.specs.Prelude.{ℕ, ◌-◌, Bool, List, [], ◌∷◌, length, take, drop, ◌==◌, ◌||◌, Option, Some, None, map, bytes_eq}
 use Rattle.std.specs.List.{filter, list_any, flat_map, prefix_len, suffix_len, slice_split}
 use Rattle.std.specs.Char.{to_ascii_lowercase}
 use Rattle.nc_types.specs.declared.request.Field.{Field}
 
--- two texts are the same, byte by byte
-abbrev pub is_same : List ℕ → List ℕ → Bool
-is_same left right = pointwise nat_eq left right
-
 -- the same without regard to the case of ASCII letters
 abbrev pub is_same_word : List ℕ → List ℕ → Bool
-is_same_word left right = is_same (map to_ascii_lowercase left) (map to_ascii_lowercase right)
+is_same_word left right = bytes_eq (map to_ascii_lowercase left) (map to_ascii_lowercase right)
 
 -- a space or a tab
 abbrev pub is_blank : ℕ → Bool
@@ -49,7 +44,7 @@ items name fields = flat_map items_of (values name fields)
 
 -- a text is one of these
 abbrev pub is_among : List ℕ → List (List ℕ) → Bool
-is_among text texts = list_any (is_same text) texts
+is_among text texts = list_any (bytes_eq text) texts
 
 -- a word is one of these, without regard to case
 abbrev pub is_word_among : List ℕ → List (List ℕ) → Bool

@@ -1,5 +1,5 @@
 -- Openings of WebSocket connections (RFC 6455, section 4.2.1).
-use Rattle.std.specs.Prelude.{◌≡◌, ℕ, Bool, true, false, List, length, codes, ◌==◌, ◌&&◌, Option, Some, None, Result, Ok, Err}
+use Rattle.std.specs.Prelude.{◌≡◌, ℕ, Bool, true, false, List, length, codes, ◌==◌, ◌&&◌, Option, Some, None, Result, Ok, Err, bytes_eq}
 use Rattle.base64.specs.Engines.{standard}
 use Rattle.base64.specs.GeneralPurpose.{decode_of}
 use Rattle.base64.specs.declared.decode.DecodeError.{DecodeError}
@@ -7,7 +7,7 @@ use Rattle.nc_types.specs.declared.request.Field.{Field}
 use Rattle.nc_accept.specs.declared.opening.Opening.{Opening}
 use Rattle.nc_accept.specs.declared.opening.HandRefusal.{HandRefusal}
 use Rattle.nc_accept.specs.declared.opening.HandRefusal.TheVariants.{Connection, Version, Key, NoMemory}
-use Rattle.nc_accept.specs.Fields.{is_same, values, items, is_among, is_word_among, only}
+use Rattle.nc_accept.specs.Fields.{values, items, is_among, is_word_among, only}
 
 -- an item of a `Connection` field is `upgrade`
 abbrev pub asks_upgrade : List Field → Bool
@@ -15,7 +15,7 @@ asks_upgrade fields = is_word_among (codes "upgrade") (items (codes "Connection"
 
 abbrev pub is_version : Option (List ℕ) → Bool
 is_version None = false
-is_version (Some value) = is_same value (codes "13")
+is_version (Some value) = bytes_eq value (codes "13")
 
 -- there is one `Sec-WebSocket-Version` field alone, and its value is `13`
 abbrev pub has_version : List Field → Bool

@@ -1,10 +1,10 @@
 //! The fields of a request's head by their names (RFC 9110, section 5), and the items of list fields.
 //!
 //! Openings and routing rules read fields by this alone.
-ghost use Rattle.std.specs.Prelude.{◌≡◌, ◌≤◌, ◌&&◌, length};
+ghost use Rattle.std.specs.Prelude.{◌≡◌, ◌≤◌, ◌&&◌, length, bytes_eq};
 ghost use Rattle.std.specs.List.{prefix_len};
 ghost use Rattle.std.specs.Option.{option_copied};
-ghost use Rattle.nc_accept.specs.Fields.{is_same_word, is_same, is_blank, freed, items_of, is_called, values, items, is_among, is_word_among, only, first};
+ghost use Rattle.nc_accept.specs.Fields.{is_same_word, is_blank, freed, items_of, is_called, values, items, is_among, is_word_among, only, first};
 
 use nc_types::Field;
 
@@ -60,7 +60,7 @@ fn is_word_item(word: &[u8], piece: &[u8]) -> bool
 }
 
 fn is_item(text: &[u8], piece: &[u8]) -> bool
-    ensures { result ≡ is_same text.now (freed piece.now) }
+    ensures { result ≡ bytes_eq text.now (freed piece.now) }
 {
     text == freed(piece)
 }

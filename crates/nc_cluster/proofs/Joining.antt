@@ -26,7 +26,7 @@ use Rattle.nc_script.specs.declared.line.Line.TheVariants as lines
 use Rattle.nc_cluster.specs.declared.cluster.Cluster.{Cluster}
 use Rattle.nc_cluster.specs.declared.cluster.MoveRefusal.{MoveRefusal}
 use Rattle.nc_cluster.specs.declared.cluster.MoveRefusal.TheVariants as refusals
-use Rattle.nc_cluster.specs.Line.{pure_line, CanMake}
+use Rattle.nc_cluster.specs.PureLine.{pure_line, CanMake}
 use Rattle.nc_cluster.specs.Comers.{with_line, noted, subscribed, broken_rule}
 use Rattle.nc_cluster.specs.Cluster.{HasMade, IsRefused}
 use Rattle.nc_cluster.specs.Stands.{ClusterAt, seen, Stands, GoesOn, AfterWorn, IsLeft}

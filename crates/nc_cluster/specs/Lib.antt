@@ -1,4 +1,4 @@
-pub mod Line
+pub mod PureLine
 pub mod Comers
 pub mod Made
 pub mod Cluster

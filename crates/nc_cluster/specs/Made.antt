@@ -16,7 +16,8 @@ use Rattle.nc_floor.specs.Floor.{setup_in, world_of}
 -- moves were made, their events told; or so many came before a worn worker, and what is left is that of a settle of as many
 abbrev pub IsMade : Setup → List Move → World → Settled → List Event → World → Type 0
 IsMade setup ms world Whole told new = (moves_before_worn setup ms world ≡ None) × (told ≡ events_of setup ms world) × (new ≡ led_to setup ms world)
-IsMade setup ms world (Worn m) told new = (moves_before_worn setup ms world ≡ Some m) × (told ≡ worn_events setup m world) × (new ≡ worn_world setup m world)
+IsMade setup ms world (Worn m) told new = (moves_before_worn setup ms world ≡ Some m) × (told ≡ worn_events setup m world)
+    × (new ≡ worn_world setup m world)
 
 -- a move was made before a worn worker, or none was met
 abbrev pub has_moved : Settled → Bool

@@ -36,12 +36,14 @@ pub record Stands (setup : Setup) (lines : List Line) (s : ClusterAt) : Type 0 w
 
 -- one line more was made, and its events are those that follow
 abbrev pub GoesOn : Line → List Event → ClusterAt → ClusterAt → Type 0
-GoesOn line events old new = (setup : Setup) (lines : List Line) → Stands setup lines old → (events ≡ line_events setup line (lines_world setup lines)) × Stands setup (line ∷ lines) new
+GoesOn line events old new = (setup : Setup) (lines : List Line) → Stands setup lines old
+    → (events ≡ line_events setup line (lines_world setup lines)) × Stands setup (line ∷ lines) new
 
 -- so many moves came before a worn worker: a settle of as many was made, or nothing
 abbrev pub AfterWorn : ℕ → List Event → Setup → List Line → ClusterAt → Type 0
 AfterWorn zero events setup lines new = (events ≡ []) × Stands setup lines new
-AfterWorn (suc m) events setup lines new = (events ≡ line_events setup (Settle (suc m)) (lines_world setup lines)) × Stands setup (Settle (suc m) ∷ lines) new
+AfterWorn (suc m) events setup lines new = (events ≡ line_events setup (Settle (suc m)) (lines_world setup lines))
+    × Stands setup (Settle (suc m) ∷ lines) new
 
 abbrev pub GoesWorn : List Event → ClusterAt → ClusterAt → Type 0
 GoesWorn events old new = (setup : Setup) (lines : List Line) → Stands setup lines old → (m : ℕ) × AfterWorn m events setup lines new

@@ -5,7 +5,7 @@ ghost use Rattle.nc_worker_state.specs.Setup.{Setup, setup_of};
 ghost use Rattle.nc_world.specs.World.{new_world, pending_in};
 ghost use Rattle.nc_world.specs.Lines.{Line as MadeLine, journal_of};
 ghost use Rattle.nc_floor.specs.Floor.{setup_in, world_of, telling_of, IsFloor};
-ghost use Rattle.nc_cluster.specs.Line.{pure_line, CanMake};
+ghost use Rattle.nc_cluster.specs.PureLine.{pure_line, CanMake};
 ghost use Rattle.nc_cluster.specs.Comers.{noted, subscribed, broken_rule};
 ghost use Rattle.nc_cluster.specs.Cluster.{IsCluster, HasMade, IsRefused};
 ghost use Rattle.nc_cluster.specs.Stands.{seen, Stands, GoesOn, IsLeft};
@@ -47,7 +47,8 @@ fn begin<W: Hand>(floor: Floor<W>, subscribers: Members) -> Cluster<W>
     requires told { floor.told ≡ [] }
     requires none { subscribers ≡ [] }
     ensures cluster { IsCluster W.worker W.sound ⟦<PlainSlots as Slots>⟧.held result }
-    ensures stands { (setup : Setup) → telling_of W.worker floor ≡ record { setup = setup; world = new_world setup; told = [] } → Stands setup [] (seen W.worker result) }
+    ensures stands { (setup : Setup) → telling_of W.worker floor ≡ record { setup = setup; world = new_world setup; told = [] }
+        → Stands setup [] (seen W.worker result) }
 {
     Cluster {
         floor,
@@ -70,7 +71,8 @@ impl<W: Hand> Cluster<W> {
     /// had a subscriber of this number.
     pub fn fits(&self, line: &Line) -> Option<u8>
         ensures rule { result ≡ broken_rule (noted self.now.subscribers) (pure_line line.now) }
-        ensures told { (setup : Setup) (lines : List MadeLine) → Stands setup lines (seen W.worker self.now) → result ≡ broken_rule (subscribed (joined (journal_of setup lines))) (pure_line line.now) }
+        ensures told { (setup : Setup) (lines : List MadeLine) → Stands setup lines (seen W.worker self.now)
+            → result ≡ broken_rule (subscribed (joined (journal_of setup lines))) (pure_line line.now) }
     {
         rule_for(&self.subscribers, comer(line))
     }

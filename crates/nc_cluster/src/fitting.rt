@@ -1,6 +1,6 @@
 //! Who comes with a line, and whether the line fits those before it.
 ghost use Rattle.std.specs.Prelude.{◌≡◌, OnOk};
-ghost use Rattle.nc_cluster.specs.Line.{pure_line};
+ghost use Rattle.nc_cluster.specs.PureLine.{pure_line};
 ghost use Rattle.nc_cluster.specs.Comers.{comer, with_comer, noted, rule_of};
 
 use nc_owner::{Member, Members};

@@ -4,7 +4,7 @@ ghost use Rattle.nc_worker_state.specs.Incoming.{incoming_of};
 ghost use Rattle.nc_world_laws.specs.Outside.{IsOutside};
 ghost use Rattle.nc_floor.specs.Hand.{IsRight};
 ghost use Rattle.nc_floor.specs.Floor.{IsFloor};
-ghost use Rattle.nc_cluster.specs.Line.{pure_line, CanMake};
+ghost use Rattle.nc_cluster.specs.PureLine.{pure_line, CanMake};
 ghost use Rattle.nc_cluster.specs.Comers.{with_made};
 ghost use Rattle.nc_cluster.specs.Made.{has_moved, HandsIn, Carrying, Taking, Settling, Makes};
 

@@ -19,7 +19,7 @@ use Rattle.nc_worker_state.specs.Deed.{Deed, told}
 use Rattle.nc_worker_state.specs.Spooled.{facts_deeds}
 use Rattle.nc_worker_state.specs.Desk.{Served, handled}
 use Rattle.nc_outbox.specs.Outboxes.{next_of, IsGranted}
-use Rattle.nc_scribe.specs.Scribe.{ScribeAt, Tells}
+use Rattle.nc_scribe.specs.Scribe.{ScribeAt, TellsMore}
 use Rattle.nc_scribe.proofs.Story.{tells_same}
 use Rattle.nc_desk.specs.declared.desk.Desk.{Desk as DeskAt}
 use Rattle.nc_desk.specs.Desk.{told_hold, told_spools, told_desk, found_of, Serves, IsHeld, AreHeld}
@@ -75,7 +75,7 @@ module _ {H : Type 0} where
 
   -- what spools did was told
   pub serves_facts : (cause : EndedCause) (new : DeskAt H) (s t : ScribeAt H) (r : Served) (facts is : List Fact) → told_desk new ≡ r.after → facts ≡ is → facts_deeds s.me cause is ≡ r.deeds
-      → Tells s t (told s.me (next_of s.outboxes) (facts_deeds s.me cause facts)) → Serves new s t r
+      → TellsMore s t (told s.me (next_of s.outboxes) (facts_deeds s.me cause facts)) → Serves new s t r
   serves_facts cause new s t r facts is after same deeds q = record {
     after = after;
     tells = tells_same (ap (λ (fs : List Fact). told s.me (next_of s.outboxes) (facts_deeds s.me cause fs)) same ∙ ap (λ (ds : List Deed). told s.me (next_of s.outboxes) ds) deeds) q;
@@ -92,7 +92,7 @@ module _ {H : Type 0} where
 
   pub serves_answer : (d : DeskAt H) (new : SpoolsAt H) (s t : ScribeAt H) (from number q floor : ℕ) (found : Option (Grant H)) (given : Option (Found H)) (facts : List Fact)
       → given ≡ option_map (found_of from) found → facts ≡ answer_facts number q floor given d.spools → new ≡ answer_after number q floor given d.spools
-      → Tells s t (told s.me (next_of s.outboxes) (facts_deeds s.me Answered facts)) → Serves (record d { spools = new }) s t (handled s.me from (answer_line number q floor found) (told_desk d))
+      → TellsMore s t (told s.me (next_of s.outboxes) (facts_deeds s.me Answered facts)) → Serves (record d { spools = new }) s t (handled s.me from (answer_line number q floor found) (told_desk d))
   serves_answer d new s t from number q floor found given facts is same left tells =
       serves_facts Answered (record d { spools = new }) s t (handled s.me from (answer_line number q floor found) (told_desk d)) facts (answer_facts number q floor (option_map (found_of from) found) d.spools)
       (ap (λ (x : SpoolsAt H). told_desk (record d { spools = x })) (left ∙ ap (λ (f : Option (Found H)). answer_after number q floor f d.spools) is) ∙ answered_after s.me from number q floor found d)
@@ -100,7 +100,7 @@ module _ {H : Type 0} where
 
   pub serves_notice : (d : DeskAt H) (new : SpoolsAt H) (s t : ScribeAt H) (from : ℕ) (c : List ℕ) (grant : Grant H) (given : Found H) (facts : List Fact)
       → given ≡ found_of from grant → facts ≡ notice_facts c given d.spools → new ≡ notice_after c given d.spools
-      → Tells s t (told s.me (next_of s.outboxes) (facts_deeds s.me Answered facts)) → Serves (record d { spools = new }) s t (handled s.me from (lines.Notice c grant.id grant.g grant.slot) (told_desk d))
+      → TellsMore s t (told s.me (next_of s.outboxes) (facts_deeds s.me Answered facts)) → Serves (record d { spools = new }) s t (handled s.me from (lines.Notice c grant.id grant.g grant.slot) (told_desk d))
   serves_notice d new s t from c grant given facts is same left tells =
       serves_facts Answered (record d { spools = new }) s t (handled s.me from (lines.Notice c grant.id grant.g grant.slot) (told_desk d)) facts (notice_facts c (found_of from grant) d.spools)
       (ap (λ (x : SpoolsAt H). told_desk (record d { spools = x })) (left ∙ ap (λ (f : Found H). notice_after c f d.spools) is) ∙ noticed_after s.me from c grant d)

@@ -10,7 +10,7 @@ use Rattle.nc_worker_state.specs.Spooled.{Hold}
 use Rattle.nc_worker_state.specs.Deed.{told}
 use Rattle.nc_worker_state.specs.Desk.{Desk, Served}
 use Rattle.nc_outbox.specs.Outboxes.{next_of}
-use Rattle.nc_scribe.specs.Scribe.{ScribeAt, Tells}
+use Rattle.nc_scribe.specs.Scribe.{ScribeAt, TellsMore}
 use Rattle.nc_desk.specs.declared.desk.Desk.{Desk as DeskAt}
 
 module _ {H : Type 0} where
@@ -33,7 +33,7 @@ module _ {H : Type 0} where
   -- what the desk did was told, and it is left so
   pub record Serves (new : DeskAt H) (scribe later : ScribeAt H) (r : Served) : Type 0 where
     pub after : told_desk new ≡ r.after
-    pub tells : Tells scribe later (told scribe.me (next_of scribe.outboxes) r.deeds)
+    pub tells : TellsMore scribe later (told scribe.me (next_of scribe.outboxes) r.deeds)
 
 module _ {H : Type 0} (held : H → HoldAt) where
   -- a kept hold is of the slot that its grant names

@@ -70,7 +70,8 @@ impl<H: Drop> Desk<H> {
         c: &ChanName,
         found: Grant<H>,
     ) -> Result<(), NoMemory>
-        ensures serves { OnOk result (Serves self.new scribe.old scribe.new (handled scribe.old.me from (lines.Notice c.now found.id found.g found.slot) (told_desk self.old))) }
+        ensures serves { OnOk result (Serves self.new scribe.old scribe.new
+            (handled scribe.old.me from (lines.Notice c.now found.id found.g found.slot) (told_desk self.old))) }
         ensures own { OnOk result ((held : H → HoldAt) → KeepsOwn held scribe.old scribe.new) }
         ensures held { OnOk result ((held : H → HoldAt) → IsGranted held from found → KeepsHeld held self.old self.new) }
     {
@@ -88,7 +89,8 @@ impl<H: Drop> Desk<H> {
         floor: u64,
         last: MsgId,
     ) -> Result<(), NoMemory>
-        ensures serves { OnOk result ((from : ℕ) → Serves self.new scribe.old scribe.new (handled scribe.old.me from (lines.EdgeAnswer no q floor last) (told_desk self.old))) }
+        ensures serves { OnOk result ((from : ℕ)
+            → Serves self.new scribe.old scribe.new (handled scribe.old.me from (lines.EdgeAnswer no q floor last) (told_desk self.old))) }
         ensures own { OnOk result ((held : H → HoldAt) → KeepsOwn held scribe.old scribe.new) }
         ensures held { OnOk result ((held : H → HoldAt) → KeepsHeld held self.old self.new) }
     {
@@ -104,7 +106,8 @@ impl<H: Drop> Desk<H> {
         c: &ChanName,
         subs: &List<u64>,
     ) -> Result<(), NoMemory>
-        ensures serves { OnOk result ((from : ℕ) → Serves self.new scribe.old scribe.new (handled scribe.old.me from (lines.Gone c.now subs.now) (told_desk self.old))) }
+        ensures serves { OnOk result ((from : ℕ)
+            → Serves self.new scribe.old scribe.new (handled scribe.old.me from (lines.Gone c.now subs.now) (told_desk self.old))) }
         ensures own { OnOk result ((held : H → HoldAt) → KeepsOwn held scribe.old scribe.new) }
         ensures held { OnOk result ((held : H → HoldAt) → KeepsHeld held self.old self.new) }
     {

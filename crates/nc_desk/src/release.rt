@@ -1,7 +1,7 @@
 //! At the end of a step the holds go back that nobody uses.
 ghost use Rattle.std.specs.Prelude.{◌≡◌, OnOk, true};
 ghost use Rattle.nc_worker_state.specs.Worker.{given_back};
-ghost use Rattle.nc_scribe.specs.Scribe.{Tells, KeepsOwn};
+ghost use Rattle.nc_scribe.specs.Scribe.{TellsMore, KeepsOwn};
 ghost use Rattle.nc_desk.specs.Desk.{AreHeld};
 ghost use Rattle.nc_desk.specs.Release.{released, idle_events, busy_desk};
 
@@ -31,7 +31,7 @@ pub fn release_idle<P: Slots>(
     scribe: &mut Scribe<P::Hold>,
 ) -> Result<(), NoMemory>
     requires { AreHeld P.held desk.old.spools.kept }
-    ensures tells { OnOk result (Tells scribe.old scribe.new (idle_events scribe.old.me desk.old.spools)) }
+    ensures tells { OnOk result (TellsMore scribe.old scribe.new (idle_events scribe.old.me desk.old.spools)) }
     ensures desk { OnOk result (desk.new ≡ busy_desk desk.old) }
     ensures held { OnOk result (AreHeld P.held desk.new.spools.kept) }
     ensures own { OnOk result (KeepsOwn P.held scribe.old scribe.new) }

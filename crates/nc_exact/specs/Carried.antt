@@ -28,7 +28,8 @@ pub record Promised (workers : ℕ) (h : List Event) : Type 0 where
   pub fenced : AtEachCut (FencedSince workers) h
   pub taken : Along (TakenAt workers) h
   pub rises : Along RisesFor h
-  pub exact : (newer older : List Event) → h ≡ newer ++ older → (w k : ℕ) (list : List (List ℕ)) (cur : CursorAt) → StandsAt list cur (stage_of k (own w older)) → ResumesExactly workers w k list cur newer older
+  pub exact : (newer older : List Event) → h ≡ newer ++ older → (w k : ℕ) (list : List (List ℕ)) (cur : CursorAt)
+      → StandsAt list cur (stage_of k (own w older)) → ResumesExactly workers w k list cur newer older
 
 abbrev pub CarriedPromises : Type 0
 CarriedPromises = (workers : ℕ) (h : List Event) → Carried workers h → Promised workers h

@@ -23,7 +23,8 @@ pub record ResumesExactly (workers w k : ℕ) (list : List (List ℕ)) (cur : Cu
 -- it is so however a history is cut
 abbrev pub ExactLaw : Type 0
 ExactLaw = (workers : ℕ) (newer older : List Event) → SendsLawfully workers (newer ++ older)
-    → (w k : ℕ) (list : List (List ℕ)) (cur : CursorAt) → StandsAt list cur (stage_of k (own w older)) → ResumesExactly workers w k list cur newer older
+    → (w k : ℕ) (list : List (List ℕ)) (cur : CursorAt) → StandsAt list cur (stage_of k (own w older))
+    → ResumesExactly workers w k list cur newer older
 
 -- the ids of one channel that a subscriber is sent rise strictly
 abbrev pub SentRisesLaw : Type 0

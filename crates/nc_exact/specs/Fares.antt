@@ -28,7 +28,8 @@ GoneAt workers w c id h (Some q) = GoneAtLook workers w q c id h
 -- it was gone at a look that a sent to subscriber k names for place j
 abbrev pub WasGone : (workers w k j : ℕ) → List ℕ → Id → List Event → Type 0
 WasGone workers w k j c id [] = ⊥
-WasGone workers w k j c id (Sent v n i d m cur looks ∷ h) = ((v ≡ w) × (n ≡ k) × GoneAt workers w c id h (slice_get looks j)) ⊎ WasGone workers w k j c id h
+WasGone workers w k j c id (Sent v n i d m cur looks ∷ h) = ((v ≡ w) × (n ≡ k) × GoneAt workers w c id h (slice_get looks j))
+    ⊎ WasGone workers w k j c id h
 WasGone workers w k j c id (e ∷ h) = WasGone workers w k j c id h
 
 -- a message of the channel at place j is past where the subscriber has come to, or wasn't past where it started, or was sent to it, or was gone when it was looked for
@@ -41,5 +42,6 @@ pub data Fares (workers w k j : ℕ) (c : List ℕ) (first cur : CursorAt) (h : 
 -- what is so at each place for one that has come to a cursor: each message of the channel, whenever it is stored, fares so;
 -- and none that it was sent is past the cursor
 pub record IsExact (workers w k : ℕ) (list : List (List ℕ)) (first cur : CursorAt) (newer older : List Event) : Type 0 where
-  pub none_lost : (j : ℕ) (c : List ℕ) → slice_get list j ≡ Some c → AllByRecursion (λ m. Fares workers w k j c first cur older m.id) (published c (newer ++ older))
+  pub none_lost : (j : ℕ) (c : List ℕ) → slice_get list j ≡ Some c
+      → AllByRecursion (λ m. Fares workers w k j c first cur older m.id) (published c (newer ++ older))
   pub none_twice : (j : ℕ) (c : List ℕ) → slice_get list j ≡ Some c → EachSent k c (λ id. IsPast id (cursor_id cur j) → ⊥) (own w older)

@@ -21,7 +21,7 @@ use Rattle.nc_floor.specs.Hand.{me_of, IsBetween}
 use Rattle.nc_floor.specs.Floor.{setup_in, world_of, IsStaffed, IsFloor, HasMoved}
 use Rattle.nc_floor.proofs.Sharing.{below_is}
 use Rattle.nc_floor.proofs.Acting.{all_set, set_shows}
-use Rattle.nc_floor.proofs.Standing.{eq_of, ne_of, me_is, still_floor, worker_is}
+use Rattle.nc_floor.proofs.OnFloor.{eq_of, ne_of, me_is, still_floor, worker_is}
 
 all_behind : {X : Type 0} (P : X → Type 0) (xs : List X) (x : X) → AllByRecursion P xs → P x → AllByRecursion P (xs ++ x ∷ [])
 all_behind P [] x a p = (p, tt)

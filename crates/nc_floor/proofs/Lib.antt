@@ -1,6 +1,6 @@
 pub mod Sharing
 pub mod Acting
-pub mod Standing
+pub mod OnFloor
 pub mod Carrying
 pub mod Taking
 pub mod Beginning

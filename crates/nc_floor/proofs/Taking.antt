@@ -18,7 +18,7 @@ use Rattle.nc_turns.specs.Telling.{Telling}
 use Rattle.nc_floor.specs.declared.floor.Floor.{Floor}
 use Rattle.nc_floor.specs.Hand.{IsBetween}
 use Rattle.nc_floor.specs.Floor.{setup_in, world_of, IsStaffed, IsFloor, HasMoved}
-use Rattle.nc_floor.proofs.Standing.{first_is, still_floor}
+use Rattle.nc_floor.proofs.OnFloor.{first_is, still_floor}
 use Rattle.nc_floor.proofs.Carrying.{ring_shows, rings_all}
 
 module _ {W : Type 0} (worker : W → WorkerAt) (sound : W → Type 0) (held : PlainHold → HoldAt) (s : Floor W) (f : IsFloor worker sound held s) (w from : ℕ) (lt : w < s.conf.workers) (sender : from < s.conf.workers)

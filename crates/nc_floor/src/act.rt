@@ -1,7 +1,7 @@
 //! A worker handles something.
 ghost use Rattle.std.specs.Prelude.{◌≡◌, ◌<◌, ◌≤◌, ◌+◌, ◌++◌, IfOk, OnOk};
 ghost use Rattle.nc_slots.specs.Plain.{row_at};
-ghost use Rattle.nc_owner_laws.specs.Fits.{Fits};
+ghost use Rattle.nc_owner_laws.specs.OwnerFits.{OwnerFits};
 ghost use Rattle.nc_worker_state.specs.Incoming.{incoming_of};
 ghost use Rattle.nc_world.specs.Moves.{Handles};
 ghost use Rattle.nc_world_views.specs.Seen.{waiting_count};
@@ -66,9 +66,10 @@ fn hand_over<W: Hand>(
     input: Input<PlainHold>,
 ) -> Result<Step, NoMemory>
     requires sound { W.sound hand.old }
-    requires fits { Fits (row_at slots.old (me_of (W.worker hand.old))).slots (W.worker hand.old).owner }
+    requires fits { OwnerFits (row_at slots.old (me_of (W.worker hand.old))).slots (W.worker hand.old).owner }
     requires right { IsRight ⟦<PlainSlots as Slots>⟧.held conf.now.workers (me_of (W.worker hand.old)) input }
-    ensures { IfOk result (λ step. HandsOver W.worker W.sound conf.now (incoming_of input) hand.old hand.new slots.old slots.new step.told.events step.waited step.waits) }
+    ensures { IfOk result (λ step. HandsOver W.worker W.sound conf.now (incoming_of input)
+        hand.old hand.new slots.old slots.new step.told.events step.waited step.waits) }
 {
     let waited = waiting_of(hand, conf.workers)?;
     let told = hand.handle(conf, slots, input)?;
@@ -89,7 +90,7 @@ pub(crate) fn act<W: Hand>(
     requires staffed { IsStaffed W.worker W.sound ⟦<PlainSlots as Slots>⟧.held floor.old }
     requires there { w < floor.old.conf.workers }
     requires me { me_of ((world_of W.worker floor.old).workers w) ≡ w }
-    requires fits { Fits ((world_of W.worker floor.old).rows w) ((world_of W.worker floor.old).workers w).owner }
+    requires fits { OwnerFits ((world_of W.worker floor.old).rows w) ((world_of W.worker floor.old).workers w).owner }
     requires right { IsRight ⟦<PlainSlots as Slots>⟧.held floor.old.conf.workers w input }
     ensures staffed { OnOk result (IsStaffed W.worker W.sound ⟦<PlainSlots as Slots>⟧.held floor.new) }
     ensures moved { OnOk result (HasMoved W.worker (Handles w (incoming_of input)) floor.old floor.new) }

@@ -1,7 +1,7 @@
 //! A worker, as far as the floor calls on it.
 ghost use Rattle.std.specs.Prelude.{◌≡◌, ◌≢◌, ◌<◌, ◌∷◌, [], ℕ, length, drop, true, IfOk, OnOk, IfSome, IfNone};
 ghost use Rattle.nc_slots.specs.Plain.{row_at};
-ghost use Rattle.nc_owner_laws.specs.Fits.{Fits};
+ghost use Rattle.nc_owner_laws.specs.OwnerFits.{OwnerFits};
 ghost use Rattle.nc_worker_state.specs.Setup.{setup_of};
 ghost use Rattle.nc_worker_state.specs.Incoming.{incoming_of, told_packet};
 ghost use Rattle.nc_worker_state.specs.Worker.{WorkerAt, new_worker, with_at, is_worn, IsHandled};
@@ -36,10 +36,11 @@ pub trait Hand: Drop {
         input: Input<PlainHold>,
     ) -> Result<EventList, NoMemory>
         requires sound { sound self.old }
-        requires fits { Fits (row_at slots.old (me_of (worker self.old))).slots (worker self.old).owner }
+        requires fits { OwnerFits (row_at slots.old (me_of (worker self.old))).slots (worker self.old).owner }
         requires right { IsRight ⟦<PlainSlots as Slots>⟧.held conf.now.workers (me_of (worker self.old)) input }
         ensures sound { OnOk result (sound self.new) }
-        ensures handled { IfOk result (λ told. (first : ℕ) → IsHandled true (setup_of conf.now first) (me_of (worker self.old)) (incoming_of input) (seat_in (worker self.old) (me_of (worker self.old)) slots.old) told.events (seat_in (worker self.new) (me_of (worker self.old)) slots.new)) }
+        ensures handled { IfOk result (λ told. (first : ℕ) → IsHandled true (setup_of conf.now first) (me_of (worker self.old)) (incoming_of input)
+            (seat_in (worker self.old) (me_of (worker self.old)) slots.old) told.events (seat_in (worker self.new) (me_of (worker self.old)) slots.new)) }
         ensures others { OnOk result ((o : ℕ) → o ≢ me_of (worker self.old) → (row_at slots.new o).slots ≡ (row_at slots.old o).slots) };
 
     /// Whether one of its counters stands at 2^63 or more, of packets to so many workers or of what else it numbers.

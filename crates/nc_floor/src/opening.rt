@@ -16,7 +16,8 @@ use std::mem;
 /// A floor of new workers by a configuration, whose numbers begin with `first`.
 pub fn open<W: Hand>(alloc: Global, conf: Config, first: u64) -> Result<Floor<W>, NoMemory>
     ensures floor { IfOk result (IsFloor W.worker W.sound ⟦<PlainSlots as Slots>⟧.held) }
-    ensures new { IfOk result (λ floor. telling_of W.worker floor ≡ record { setup = setup_of conf first; world = new_world (setup_of conf first); told = [] }) }
+    ensures new { IfOk result (λ floor. telling_of W.worker floor
+        ≡ record { setup = setup_of conf first; world = new_world (setup_of conf first); told = [] }) }
 {
     sets_up(&conf);
     let hands = hire(alloc, &conf, first)?;

@@ -7,7 +7,7 @@ use Rattle.std.proofs.lemmas.Bool.{and_parts, leb-true, ltb-true, le-leb, lt-ltb
 use Rattle.nc_grammar.specs.Reading.{Found, Stuck}
 use Rattle.nc_grammar.specs.Number.{is_digit}
 use Rattle.nc_grammar.specs.Digits.{IsDigits, digit_fits, digits_from, digits_at}
-use Rattle.nc_grammar.proofs.Exact.{Blocked, Tells, IsExact}
+use Rattle.nc_grammar.proofs.Exact.{Blocked, IsRightReading, IsExact}
 
 -- ---- digits and their value
 
@@ -88,7 +88,7 @@ digits_blocked most limit k v c p d e n s m =
     let small : v * 10 + (c - 48) ≤ limit = omega (arith, value_grows (v * 10 + digit_value c) s, whole, m.within, g.value) in
     both_ways (digit_fits most limit k v c) e (and_from _ _ (and_from _ _ (le-leb _ _ g.low) (le-leb _ _ g.high)) (and_from _ _ (lt-ltb _ _ short) (le-leb _ _ small)))
 
-digits_found : (most limit k v : ℕ) (p r t : List ℕ) → 0 < k → Digits most limit p k v → t ≡ p ++ r → Blocked (IsDigits most limit) p r → Tells (IsDigits most limit) t (Found v r)
+digits_found : (most limit k v : ℕ) (p r t : List ℕ) → 0 < k → Digits most limit p k v → t ≡ p ++ r → Blocked (IsDigits most limit) p r → IsRightReading (IsDigits most limit) t (Found v r)
 digits_found most limit k v p r t some d e b =
     record {
       front = p;
@@ -97,10 +97,10 @@ digits_found most limit k v p r t some d e b =
       blocked = b;
     }
 
-digits_tell : (most limit k v : ℕ) (p r t : List ℕ) → 0 < k → Digits most limit p k v → t ≡ p ++ r → Tells (IsDigits most limit) t (digits_from most limit k v r)
+digits_tell : (most limit k v : ℕ) (p r t : List ℕ) → 0 < k → Digits most limit p k v → t ≡ p ++ r → IsRightReading (IsDigits most limit) t (digits_from most limit k v r)
 digits_tell most limit k v p [] t some d e = digits_found most limit k v p [] t some d e tt
 digits_tell most limit k v p (c ∷ r) t some d e =
-    (elim (digit_fits most limit k v c) as (λ b. digit_fits most limit k v c ≡ b → Tells (IsDigits most limit) t (cond b (digits_from most limit (k + 1) (v * 10 + (c - 48)) r) (Found v (c ∷ r)))) [
+    (elim (digit_fits most limit k v c) as (λ b. digit_fits most limit k v c ≡ b → IsRightReading (IsDigits most limit) t (cond b (digits_from most limit (k + 1) (v * 10 + (c - 48)) r) (Found v (c ∷ r)))) [
       | true ↦ λ g. digits_tell most limit (k + 1) (v * 10 + (c - 48)) (p ++ c ∷ []) r t (omega (arith, some)) (one_more most limit k v c p g d) (e ∙ sym (append_assoc p (c ∷ []) r))
       | false ↦ λ g. digits_found most limit k v p (c ∷ r) t some d e (digits_blocked most limit k v c p d g)
     ]) refl
@@ -108,7 +108,7 @@ digits_tell most limit k v p (c ∷ r) t some d e =
 digits_zero : (most limit : ℕ) → 0 < most → IsDigits most limit 0 (48 ∷ [])
 digits_zero most limit some = record { numeral = (omega arith, (omega arith, tt)); few = omega (arith, some); value = refl; within = omega arith }
 
-digits_stuck : (most limit : ℕ) (r : List ℕ) → 0 < most → Blocked (IsDigits most limit) [] r → Tells (IsDigits most limit) r (Stuck r)
+digits_stuck : (most limit : ℕ) (r : List ℕ) → 0 < most → Blocked (IsDigits most limit) [] r → IsRightReading (IsDigits most limit) r (Stuck r)
 digits_stuck most limit r some b =
     record {
       front = [];
@@ -118,10 +118,10 @@ digits_stuck most limit r some b =
       none = λ n m. absurd (omega (arith, m.numeral.0));
     }
 
-digits_tells : (most limit : ℕ) (t : List ℕ) → 0 < most → Tells (IsDigits most limit) t (digits_at most limit t)
+digits_tells : (most limit : ℕ) (t : List ℕ) → 0 < most → IsRightReading (IsDigits most limit) t (digits_at most limit t)
 digits_tells most limit [] some = digits_stuck most limit [] some tt
 digits_tells most limit (c ∷ r) some =
-    (elim (digit_fits most limit 0 0 c) as (λ b. digit_fits most limit 0 0 c ≡ b → Tells (IsDigits most limit) (c ∷ r) (cond b (digits_from most limit 1 (c - 48) r) (Stuck (c ∷ r)))) [
+    (elim (digit_fits most limit 0 0 c) as (λ b. digit_fits most limit 0 0 c ≡ b → IsRightReading (IsDigits most limit) (c ∷ r) (cond b (digits_from most limit 1 (c - 48) r) (Stuck (c ∷ r)))) [
       | true ↦ λ g. digits_tell most limit 1 (c - 48) (c ∷ []) r (c ∷ r) (omega arith) (first_one most limit c g) refl
       | false ↦ λ g. digits_stuck most limit (c ∷ r) some (digits_blocked most limit 0 0 c [] (no_digits most limit) g)
     ]) refl

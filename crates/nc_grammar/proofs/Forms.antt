@@ -7,7 +7,8 @@ use Rattle.nc_types.specs.Written.{comma, joined}
 use Rattle.nc_grammar.specs.Reading.{Read}
 use Rattle.nc_grammar.specs.Number.{IsNumber, is_digit, number_at}
 use Rattle.nc_grammar.specs.Quoted.{AreBytes, IsQuoted, quoted_at}
-use Rattle.nc_grammar.specs.Maybe.{IsMaybe, option_at, joined_at, AtMost, OrNone, or_dash, SomeFit}
+use Rattle.nc_grammar.specs.Maybe.{option_at, joined_at, OrNone}
+use Rattle.nc_grammar.proofs.Texts.{IsMaybe, AtMost, or_dash, SomeFit}
 use Rattle.nc_grammar.specs.Whole.{IsLine}
 use Rattle.nc_grammar.proofs.Exact.{IsExact, IsExact-same}
 use Rattle.nc_grammar.proofs.Number.{number_exact}

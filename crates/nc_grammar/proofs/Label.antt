@@ -6,7 +6,7 @@ use Rattle.nc_grammar.specs.Reading.{Stuck}
 pub use Rattle.nc_grammar.specs.Label.{IsLabel, nothing}
 use Rattle.nc_grammar.specs.Label.{label_at, shared}
 use Rattle.nc_grammar.proofs.Split.{head_is, tail_is}
-use Rattle.nc_grammar.proofs.Exact.{Blocked, IsStuck, Tells, IsSet, IsExact}
+use Rattle.nc_grammar.proofs.Exact.{Blocked, IsStuck, IsRightReading, IsSet, IsExact}
 
 pub label_short : (l : List ℕ) (t : List ℕ) → 0 < length l → length t < 1 → label_at l t ≡ Stuck t
 label_short [] t some short = absurd (omega (arith, some))
@@ -28,7 +28,7 @@ longer_than p l ls e = absurd (omega (arith, ap length e, length-append p (l ∷
 label_stuck : (p : List ℕ) (l : ℕ) (ls r t : List ℕ) → t ≡ p ++ r → Blocked (IsLabel (p ++ l ∷ ls)) p r → IsStuck (IsLabel (p ++ l ∷ ls)) t r
 label_stuck p l ls r t e b = record { front = p; begun = record { value = tt; rest = l ∷ ls; text = refl }; parts = e; blocked = b; none = λ a h. longer_than p l ls h }
 
-label_tells : (p ls t r : List ℕ) → t ≡ p ++ r → Tells (IsLabel (p ++ ls)) t (label_at ls r)
+label_tells : (p ls t r : List ℕ) → t ≡ p ++ r → IsRightReading (IsLabel (p ++ ls)) t (label_at ls r)
 label_tells p [] t r e = record { front = p; text = sym (append-nil p); parts = e; blocked = no_more r }
   where
     no_more : (r : List ℕ) → Blocked (IsLabel (p ++ [])) p r
@@ -36,9 +36,9 @@ label_tells p [] t r e = record { front = p; text = sym (append-nil p); parts = 
     no_more (c ∷ r) = λ a s h. longer_than p c s (sym (h ∙ append-nil p))
 label_tells p (l ∷ ls) t [] e = label_stuck p l ls [] t e tt
 label_tells p (l ∷ ls) t (c ∷ r) e =
-    (elim (eqb l c) as (λ b. eqb l c ≡ b → Tells (IsLabel (p ++ l ∷ ls)) t (cond b (label_at ls r) (Stuck (c ∷ r)))) [
+    (elim (eqb l c) as (λ b. eqb l c ≡ b → IsRightReading (IsLabel (p ++ l ∷ ls)) t (cond b (label_at ls r) (Stuck (c ∷ r)))) [
       | true ↦ λ g. (let i = eqb-true l c g in
-          subst (λ (k : List ℕ). Tells (IsLabel k) t (label_at ls r)) (append_assoc p (l ∷ []) ls)
+          subst (λ (k : List ℕ). IsRightReading (IsLabel k) t (label_at ls r)) (append_assoc p (l ∷ []) ls)
           (label_tells (p ++ l ∷ []) ls t r (e ∙ ap (λ (k : ℕ). p ++ k ∷ r) (sym i) ∙ sym (append_assoc p (l ∷ []) r))))
       | false ↦ λ g. label_stuck p l ls (c ∷ r) t e (λ a s h. eqb-false l c g (sym (next_of_label p l ls s c h)))
     ]) refl

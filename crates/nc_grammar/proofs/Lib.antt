@@ -1,3 +1,4 @@
+pub mod Texts
 pub mod Split
 pub mod Exact
 pub mod Seq

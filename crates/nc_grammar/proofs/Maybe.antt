@@ -2,9 +2,10 @@
 use Rattle.std.proofs.Common.{◌≡◌, ℕ, Bool, true, false, cond, eqb, List, [], ◌∷◌, ◌++◌, Option, Some, None, refl, sym, ap, subst, ◌∙◌}
 use Rattle.std.proofs.lemmas.Bool.{eqb-true, eqb-false}
 use Rattle.nc_grammar.specs.Reading.{Read, Found, Stuck, map_read}
-use Rattle.nc_grammar.specs.Maybe.{IsMaybe, option_at}
+use Rattle.nc_grammar.specs.Maybe.{option_at}
+use Rattle.nc_grammar.proofs.Texts.{IsMaybe}
 use Rattle.nc_grammar.proofs.Split.{head_is, tail_is, not_nil}
-use Rattle.nc_grammar.proofs.Exact.{Blocked, Tells, IsSet, IsExact}
+use Rattle.nc_grammar.proofs.Exact.{Blocked, IsRightReading, IsSet, IsExact}
 
 -- no text is empty or begins with `-`
 pub record NoDash {A : Type 0} (L : A → List ℕ → Type 0) : Type 0 where
@@ -31,7 +32,7 @@ maybe_none : {A : Type 0} (L : A → List ℕ → Type 0) (t p r : List ℕ) →
 maybe_none L t p r other e n None m = other r (e ∙ ap (λ (l : List ℕ). l ++ r) m)
 maybe_none L t p r other e n (Some a) m = n a m
 
-maybe_some : {A : Type 0} (L : A → List ℕ → Type 0) (t : List ℕ) (x : Read A) → ((w : List ℕ) → t ≡ 45 ∷ w → ⊥) → Tells L t x → Tells (IsMaybe L) t (map_read Some x)
+maybe_some : {A : Type 0} (L : A → List ℕ → Type 0) (t : List ℕ) (x : Read A) → ((w : List ℕ) → t ≡ 45 ∷ w → ⊥) → IsRightReading L t x → IsRightReading (IsMaybe L) t (map_read Some x)
 maybe_some L t (Found a r) other m = record { front = m.front; text = m.text; parts = m.parts; blocked = maybe_blocked L t m.front r other m.parts m.blocked }
 maybe_some L t (Stuck r) other m =
     record {
@@ -50,10 +51,10 @@ dash_blocked {A = A} L d (c ∷ r) = λ o s m. by_option o s m
     by_option None s m = not_nil c s (tail_is 45 45 (c ∷ s) [] m)
     by_option (Some a) s m = d.other a (c ∷ s) m
 
-maybe_tells : {A : Type 0} (L : A → List ℕ → Type 0) (read : List ℕ → Read A) → NoDash L → ((t : List ℕ) → Tells L t (read t)) → (t : List ℕ) → Tells (IsMaybe L) t (option_at read t)
+maybe_tells : {A : Type 0} (L : A → List ℕ → Type 0) (read : List ℕ → Read A) → NoDash L → ((t : List ℕ) → IsRightReading L t (read t)) → (t : List ℕ) → IsRightReading (IsMaybe L) t (option_at read t)
 maybe_tells L read d h [] = maybe_some L [] (read []) (λ w e. not_nil 45 w (sym e)) (h [])
 maybe_tells L read d h (c ∷ r) =
-    (elim (eqb c 45) as (λ b. eqb c 45 ≡ b → Tells (IsMaybe L) (c ∷ r) (cond b (Found None r) (map_read Some (read (c ∷ r))))) [
+    (elim (eqb c 45) as (λ b. eqb c 45 ≡ b → IsRightReading (IsMaybe L) (c ∷ r) (cond b (Found None r) (map_read Some (read (c ∷ r))))) [
       | true ↦ λ g. record { front = 45 ∷ []; text = refl; parts = ap (λ (k : ℕ). k ∷ r) (eqb-true c 45 g); blocked = dash_blocked L d r }
       | false ↦ λ g. maybe_some L (c ∷ r) (read (c ∷ r)) (λ w e. eqb-false c 45 g (head_is c 45 r w e)) (h (c ∷ r))
     ]) refl

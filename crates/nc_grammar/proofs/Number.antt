@@ -7,7 +7,7 @@ use Rattle.std.proofs.lemmas.Bool.{and_parts, leb-true, ltb-true, le-leb, lt-ltb
 use Rattle.nc_grammar.specs.Reading.{Found, Stuck, Begins}
 use Rattle.nc_grammar.specs.Number.{is_digit, IsNumber, goes_on, more_digits_at, number_at}
 use Rattle.nc_grammar.proofs.Split.{longer, shorter, same, split, head_is}
-use Rattle.nc_grammar.proofs.Exact.{Blocked, Tells, IsExact}
+use Rattle.nc_grammar.proofs.Exact.{Blocked, IsRightReading, IsExact}
 
 -- what follows a front of a number's digits
 pub record NextDigit (v c n : ℕ) : Type 0 where
@@ -53,13 +53,13 @@ digits_blocked limit v c r lt le e n s m =
     let d = next_digit n v c s (omega (arith, m.within)) (omega arith) (sym m.text) in
     both_ways (goes_on limit v c) e (and_from _ _ (is_digit_from c d.low d.high) (and_from _ _ (lt-ltb _ _ d.some) (le-leb _ _ (omega (arith, d.whole, m.within)))))
 
-digits_found : (limit v : ℕ) (r : List ℕ) → limit < 2 ^ 64 → v ≤ limit → (t : List ℕ) → t ≡ decimal v ++ r → Blocked (IsNumber limit) (decimal v) r → Tells (IsNumber limit) t (Found v r)
+digits_found : (limit v : ℕ) (r : List ℕ) → limit < 2 ^ 64 → v ≤ limit → (t : List ℕ) → t ≡ decimal v ++ r → Blocked (IsNumber limit) (decimal v) r → IsRightReading (IsNumber limit) t (Found v r)
 digits_found limit v r lt le t e b = record { front = decimal v; text = record { within = le; text = refl }; parts = e; blocked = b }
 
-digits_tell : (limit v : ℕ) (r : List ℕ) → limit < 2 ^ 64 → v ≤ limit → (t : List ℕ) → t ≡ decimal v ++ r → Tells (IsNumber limit) t (more_digits_at limit v r)
+digits_tell : (limit v : ℕ) (r : List ℕ) → limit < 2 ^ 64 → v ≤ limit → (t : List ℕ) → t ≡ decimal v ++ r → IsRightReading (IsNumber limit) t (more_digits_at limit v r)
 digits_tell limit v [] lt le t e = digits_found limit v [] lt le t e tt
 digits_tell limit v (c ∷ r) lt le t e =
-    (elim (goes_on limit v c) as (λ b. goes_on limit v c ≡ b → Tells (IsNumber limit) t (cond b (more_digits_at limit (v * 10 + (c - 48)) r) (Found v (c ∷ r)))) [
+    (elim (goes_on limit v c) as (λ b. goes_on limit v c ≡ b → IsRightReading (IsNumber limit) t (cond b (more_digits_at limit (v * 10 + (c - 48)) r) (Found v (c ∷ r)))) [
       | true ↦ λ g. (let a = and_parts (is_digit c) _ g in let l = and_parts (nat_le 48 c) _ a.0 in let h = and_parts (nat_lt 0 v) _ a.1 in
           let some = ltb-true _ _ h.0 in let within = leb-true _ _ h.1 in
           let m = more_digits v c some (leb-true _ _ l.0) (leb-true _ _ l.1) (omega (arith, within)) in
@@ -96,10 +96,10 @@ number_blocked limit c r lt e n s m =
     let d = first_digit n (omega (arith, m.within)) c s (sym m.text) in
     both_ways (is_digit c && nat_le (c - 48) limit) e (and_from _ _ (is_digit_from c d.0 d.1) (le-leb _ _ (omega (arith, d.2, m.within))))
 
-number_tells : (limit : ℕ) (t : List ℕ) → limit < 2 ^ 64 → Tells (IsNumber limit) t (number_at limit t)
+number_tells : (limit : ℕ) (t : List ℕ) → limit < 2 ^ 64 → IsRightReading (IsNumber limit) t (number_at limit t)
 number_tells limit [] lt = record { front = []; begun = number_begins limit; parts = refl; blocked = tt; none = λ n m. no_number limit n lt m }
 number_tells limit (c ∷ r) lt =
-    (elim (is_digit c && nat_le (c - 48) limit) as (λ b. (is_digit c && nat_le (c - 48) limit) ≡ b → Tells (IsNumber limit) (c ∷ r) (cond b (more_digits_at limit (c - 48) r) (Stuck (c ∷ r)))) [
+    (elim (is_digit c && nat_le (c - 48) limit) as (λ b. (is_digit c && nat_le (c - 48) limit) ≡ b → IsRightReading (IsNumber limit) (c ∷ r) (cond b (more_digits_at limit (c - 48) r) (Stuck (c ∷ r)))) [
       | true ↦ λ g. (let a = and_parts (is_digit c) _ g in let l = and_parts (nat_le 48 c) _ a.0 in
           digits_tell limit (c - 48) r lt (leb-true _ _ a.1) (c ∷ r) (ap (λ (k : List ℕ). k ++ r) (sym (digit_is c (leb-true _ _ l.0) (leb-true _ _ l.1)))))
       | false ↦ λ g. record { front = []; begun = number_begins limit; parts = refl; blocked = number_blocked limit c r lt g; none = λ n m. no_number limit n lt m }

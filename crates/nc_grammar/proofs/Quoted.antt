@@ -9,7 +9,7 @@ use Rattle.nc_grammar.specs.Reading.{first_passes, Found, Stuck, Begins}
 use Rattle.nc_grammar.specs.Label.{nothing}
 use Rattle.nc_grammar.specs.Quoted.{AreBytes, IsQuoted, hex_value, is_short, is_plain, plain_run, is_coded, escape_of, first_fits, coded_by, second_fits, Mode, Plain, Slash, Hex, Digit, quote_at, quoted_at}
 use Rattle.nc_grammar.proofs.Split.{head_is, tail_is, not_nil}
-use Rattle.nc_grammar.proofs.Exact.{Blocked, Tells, IsExact}
+use Rattle.nc_grammar.proofs.Exact.{Blocked, IsRightReading, IsExact}
 
 -- ---- how a byte is written
 
@@ -355,7 +355,7 @@ run_stops (c ∷ r) =
 
 -- ---- reading
 
-quote_stuck : (text : List ℕ) (mode : Mode) (t r : List ℕ) → AreBytes text → ModeFits mode → t ≡ at_mode text mode ++ r → Blocked IsQuoted (at_mode text mode) r → Tells IsQuoted t (Stuck r)
+quote_stuck : (text : List ℕ) (mode : Mode) (t r : List ℕ) → AreBytes text → ModeFits mode → t ≡ at_mode text mode ++ r → Blocked IsQuoted (at_mode text mode) r → IsRightReading IsQuoted t (Stuck r)
 quote_stuck text mode t r f m e b = record { front = at_mode text mode; begun = mode_begins text mode f m; parts = e; blocked = b; none = mode_none text mode f }
 
 -- one byte more behind what was read
@@ -386,7 +386,7 @@ closed_blocked text f (c ∷ r) =
     by_others c s [] g e = not_nil c s (sym (tail_is 34 34 [] (c ∷ s) e))
     by_others c s (b ∷ bs) g e = not_closing b (body bs) (c ∷ s) g.0 (sym (body_cons b bs) ∙ e)
 
-quote_closed : (text : List ℕ) (t r : List ℕ) (c : ℕ) → AreBytes text → c ≡ 34 → t ≡ at_mode text Plain ++ c ∷ r → Tells IsQuoted t (Found text r)
+quote_closed : (text : List ℕ) (t r : List ℕ) (c : ℕ) → AreBytes text → c ≡ 34 → t ≡ at_mode text Plain ++ c ∷ r → IsRightReading IsQuoted t (Found text r)
 quote_closed text t r c f is e =
     record {
       front = quoted text;
@@ -414,45 +414,45 @@ coded_is h c f e =
     fits_small : (v : ℕ) → (nat_lt v 2 || (nat_le 7 v && nat_lt v 16)) ≡ true → v < 16
     fits_small v e = grind (arith, e)
 
-quote_tells : (text : List ℕ) (mode : Mode) (r t : List ℕ) → AreBytes text → ModeFits mode → t ≡ at_mode text mode ++ r → Tells IsQuoted t (quote_at text mode r)
+quote_tells : (text : List ℕ) (mode : Mode) (r t : List ℕ) → AreBytes text → ModeFits mode → t ≡ at_mode text mode ++ r → IsRightReading IsQuoted t (quote_at text mode r)
 quote_tells text Plain [] t f m e = quote_stuck text Plain t [] f m e tt
 quote_tells text Slash [] t f m e = quote_stuck text Slash t [] f m e tt
 quote_tells text Hex [] t f m e = quote_stuck text Hex t [] f m e tt
 quote_tells text (Digit h) [] t f m e = quote_stuck text (Digit h) t [] f m e tt
 quote_tells text Plain (c ∷ r) t f m e =
-    (elim (eqb c 34) as (λ x. eqb c 34 ≡ x → Tells IsQuoted t (cond x (Found text r) (cond (eqb c 92) (quote_at text Slash r) (cond (is_plain c) (quote_at (text ++ c ∷ []) Plain r) (Stuck (c ∷ r)))))) [
+    (elim (eqb c 34) as (λ x. eqb c 34 ≡ x → IsRightReading IsQuoted t (cond x (Found text r) (cond (eqb c 92) (quote_at text Slash r) (cond (is_plain c) (quote_at (text ++ c ∷ []) Plain r) (Stuck (c ∷ r)))))) [
       | true ↦ λ g. quote_closed text t r c f (eqb-true c 34 g) e
-      | false ↦ λ g. (elim (eqb c 92) as (λ x. eqb c 92 ≡ x → Tells IsQuoted t (cond x (quote_at text Slash r) (cond (is_plain c) (quote_at (text ++ c ∷ []) Plain r) (Stuck (c ∷ r))))) [
+      | false ↦ λ g. (elim (eqb c 92) as (λ x. eqb c 92 ≡ x → IsRightReading IsQuoted t (cond x (quote_at text Slash r) (cond (is_plain c) (quote_at (text ++ c ∷ []) Plain r) (Stuck (c ∷ r))))) [
         | true ↦ λ h. quote_tells text Slash r t f tt (next_mode text Plain Slash c r t (ap (λ (k : ℕ). k ∷ []) (sym (eqb-true c 92 h))) e)
-        | false ↦ λ h. (elim (is_plain c) as (λ x. is_plain c ≡ x → Tells IsQuoted t (cond x (quote_at (text ++ c ∷ []) Plain r) (Stuck (c ∷ r)))) [
+        | false ↦ λ h. (elim (is_plain c) as (λ x. is_plain c ≡ x → IsRightReading IsQuoted t (cond x (quote_at (text ++ c ∷ []) Plain r) (Stuck (c ∷ r)))) [
           | true ↦ λ i. quote_tells (text ++ c ∷ []) Plain r t (bytes_push text c f (plain_small c i)) tt (next_byte text Plain c c r t (plain_byte c i) e)
           | false ↦ λ i. quote_stuck text Plain t (c ∷ r) f m e (λ a s n. mode_blocked text Plain c s f (eqb-false c 34 g, eqb-false c 92 h, i) a n)
         ]) refl
       ]) refl
     ]) refl
 quote_tells text Slash (c ∷ r) t f m e =
-    (elim (eqb c 120) as (λ x. eqb c 120 ≡ x → Tells IsQuoted t (cond x (quote_at text Hex r) (cond (nat_lt (escape_of c) 256) (quote_at (text ++ escape_of c ∷ []) Plain r) (Stuck (c ∷ r))))) [
+    (elim (eqb c 120) as (λ x. eqb c 120 ≡ x → IsRightReading IsQuoted t (cond x (quote_at text Hex r) (cond (nat_lt (escape_of c) 256) (quote_at (text ++ escape_of c ∷ []) Plain r) (Stuck (c ∷ r))))) [
       | true ↦ λ g. quote_tells text Hex r t f tt (next_mode text Slash Hex c r t (ap (λ (k : ℕ). 92 ∷ k ∷ []) (sym (eqb-true c 120 g))) e)
-      | false ↦ λ g. (elim (nat_lt (escape_of c) 256) as (λ x. nat_lt (escape_of c) 256 ≡ x → Tells IsQuoted t (cond x (quote_at (text ++ escape_of c ∷ []) Plain r) (Stuck (c ∷ r)))) [
+      | false ↦ λ g. (elim (nat_lt (escape_of c) 256) as (λ x. nat_lt (escape_of c) 256 ≡ x → IsRightReading IsQuoted t (cond x (quote_at (text ++ escape_of c ∷ []) Plain r) (Stuck (c ∷ r)))) [
         | true ↦ λ h. quote_tells (text ++ escape_of c ∷ []) Plain r t (bytes_push text (escape_of c) f (ltb-true _ _ h)) tt (next_byte text Slash c (escape_of c) r t (short_byte c (ltb-true _ _ h)).0 e)
         | false ↦ λ h. quote_stuck text Slash t (c ∷ r) f m e (λ a s n. mode_blocked text Slash c s f (eqb-false c 120 g, ltb-false _ _ h) a n)
       ]) refl
     ]) refl
 quote_tells text Hex (c ∷ r) t f m e =
-    (elim (first_fits c) as (λ x. first_fits c ≡ x → Tells IsQuoted t (cond x (quote_at text (Digit c) r) (Stuck (c ∷ r)))) [
+    (elim (first_fits c) as (λ x. first_fits c ≡ x → IsRightReading IsQuoted t (cond x (quote_at text (Digit c) r) (Stuck (c ∷ r)))) [
       | true ↦ λ g. quote_tells text (Digit c) r t f g (next_mode text Hex (Digit c) c r t refl e)
       | false ↦ λ g. quote_stuck text Hex t (c ∷ r) f m e (λ a s n. mode_blocked text Hex c s f g a n)
     ]) refl
 quote_tells text (Digit h) (c ∷ r) t f m e =
-    (elim (second_fits h c) as (λ x. second_fits h c ≡ x → Tells IsQuoted t (cond x (quote_at (text ++ coded_by h c ∷ []) Plain r) (Stuck (c ∷ r)))) [
+    (elim (second_fits h c) as (λ x. second_fits h c ≡ x → IsRightReading IsQuoted t (cond x (quote_at (text ++ coded_by h c ∷ []) Plain r) (Stuck (c ∷ r)))) [
       | true ↦ λ g. (let d = coded_is h c m g in quote_tells (text ++ coded_by h c ∷ []) Plain r t (bytes_push text (coded_by h c) f d.0) tt (next_byte text (Digit h) c (coded_by h c) r t d.1 e))
       | false ↦ λ g. quote_stuck text (Digit h) t (c ∷ r) f m e (λ a s n. mode_blocked text (Digit h) c s f g a n)
     ]) refl
 
-quoted_tells : (t : List ℕ) → Tells IsQuoted t (quoted_at t)
+quoted_tells : (t : List ℕ) → IsRightReading IsQuoted t (quoted_at t)
 quoted_tells [] = record { front = []; begun = record { value = []; rest = 34 ∷ 34 ∷ []; text = record { bytes = tt; spelled = refl } }; parts = refl; blocked = tt; none = λ a m. not_nil 34 (body a) (sym m.spelled) }
 quoted_tells (c ∷ r) =
-    (elim (eqb c 34) as (λ x. eqb c 34 ≡ x → Tells IsQuoted (c ∷ r) (cond x (quote_at [] Plain r) (Stuck (c ∷ r)))) [
+    (elim (eqb c 34) as (λ x. eqb c 34 ≡ x → IsRightReading IsQuoted (c ∷ r) (cond x (quote_at [] Plain r) (Stuck (c ∷ r)))) [
       | true ↦ λ g. quote_tells [] Plain r (c ∷ r) tt tt (ap (λ (k : ℕ). k ∷ r) (eqb-true c 34 g))
       | false ↦ λ g. record {
         front = [];

@@ -5,13 +5,29 @@ use Rattle.std.proofs.lemmas.Bool.{both_ways, eqb-true}
 use Rattle.std.proofs.lemmas.List.{append-nil}
 use Rattle.nc_grammar.specs.Reading.{Read, Found, Stuck, go_on, map_read, with_first}
 use Rattle.nc_grammar.specs.Label.{label_at, field_at, word_at, IsWord, IsWordFrom}
-use Rattle.nc_grammar.specs.Rows.{Kit, Field, label_of, Values, AllFit, text_onto, fields_at, Row, row_at, nth_row, nth_at, words_of, line_at}
+use Rattle.nc_grammar.specs.Rows.{Kit, Field, label_of, Values, fields_at, Row, row_at, nth_at, words_of, line_at}
 use Rattle.nc_grammar.specs.Whole.{IsLine}
 use Rattle.nc_grammar.proofs.Split.{head_is, not_nil}
 use Rattle.nc_grammar.proofs.Exact.{IsExact, Named, IsExact-named, IsExact-same, IsExact-read, IsSet-wider}
 use Rattle.nc_grammar.proofs.Seq.{Both, both_exact, either}
 use Rattle.nc_grammar.proofs.Label.{IsLabel, label_exact, nothing}
 use Rattle.nc_grammar.proofs.Word.{word_exact, word_stays, repeats}
+
+-- each of them fits its shape
+abbrev pub AllFit : (K : Kit) (fs : List (Field K)) → Values K fs → Type 0
+AllFit K [] x = Unit {0}
+AllFit K (f ∷ fs) x = K.Fits f.shape x.0 × AllFit K fs x.1
+
+-- the text of the fields behind a text
+abbrev pub text_onto : (K : Kit) (front : List ℕ) (fs : List (Field K)) → Values K fs → List ℕ
+text_onto K front [] x = front
+text_onto K front (f ∷ fs) x = text_onto K (front ++ label_of f.name ++ K.text f.shape x.0) fs x.1
+
+-- the row at a place, the last one past the end
+abbrev pub nth_row : {E : Type 0} (K : Kit) → Row K E → List (Row K E) → ℕ → Row K E
+nth_row K r rs zero = r
+nth_row K r [] (suc i) = r
+nth_row K r (s ∷ rs) (suc i) = nth_row K s rs i
 
 -- the texts of a shape's values
 pub record Spells (K : Kit) (s : K.Shape) (x : K.Value s) (u : List ℕ) : Type 0 where

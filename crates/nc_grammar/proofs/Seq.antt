@@ -5,7 +5,7 @@ use Rattle.std.proofs.lemmas.Bool.{both_ways, or_left, or_right}
 use Rattle.std.proofs.lemmas.List.{append-nil}
 use Rattle.nc_grammar.specs.Reading.{Read, Found, Stuck, go_on, with_first, Begins}
 use Rattle.nc_grammar.proofs.Split.{longer, shorter, same, split, head_is, not_nil}
-use Rattle.nc_grammar.proofs.Exact.{Blocked, IsFound, Tells, IsSet, IsExact}
+use Rattle.nc_grammar.proofs.Exact.{Blocked, IsFound, IsRightReading, IsSet, IsExact}
 
 pub record Both {A B : Type 0} (L : A → List ℕ → Type 0) (K : A → B → List ℕ → Type 0) (x : A × B) (t : List ℕ) : Type 0 where
   pub left : List ℕ
@@ -52,7 +52,7 @@ none_both {A = A} L K stays later x a u r p q la bu e bp y m =
     ]
 
 second_tells : {A B : Type 0} (L : A → List ℕ → Type 0) (K : A → B → List ℕ → Type 0) (stays later : ℕ → Bool) → IsSeq L K stays later
-    → (t : List ℕ) (a : A) (r : List ℕ) → IsFound L t a r → (y : Read B) → Tells (K a) r y → Tells (Both L K) t (with_first a y)
+    → (t : List ℕ) (a : A) (r : List ℕ) → IsFound L t a r → (y : Read B) → IsRightReading (K a) r y → IsRightReading (Both L K) t (with_first a y)
 second_tells L K stays later x t a r m (Found b q) h =
     record {
       front = m.front ++ h.front;
@@ -99,7 +99,7 @@ stuck_none L K stays later x p begun none y m =
     ]
 
 pub both_tells : {A B : Type 0} (L : A → List ℕ → Type 0) (K : A → B → List ℕ → Type 0) (stays later : ℕ → Bool) → IsSeq L K stays later
-    → (g : A → List ℕ → Read B) (t : List ℕ) (y : Read A) → ((a : A) (r : List ℕ) → IsFound L t a r → Tells (K a) r (g a r)) → Tells L t y → Tells (Both L K) t (go_on y (λ a r. with_first a (g a r)))
+    → (g : A → List ℕ → Read B) (t : List ℕ) (y : Read A) → ((a : A) (r : List ℕ) → IsFound L t a r → IsRightReading (K a) r (g a r)) → IsRightReading L t y → IsRightReading (Both L K) t (go_on y (λ a r. with_first a (g a r)))
 both_tells L K stays later x g t (Found a r) h m = second_tells L K stays later x t a r m (g a r) (h a r m)
 both_tells L K stays later x g t (Stuck r) h m =
     let k = x.right m.begun.value (m.front ++ m.begun.rest) m.begun.text in

@@ -6,7 +6,7 @@ use Rattle.nc_grammar.specs.Reading.{Read, Found, Stuck}
 use Rattle.nc_grammar.specs.Label.{field_at}
 use Rattle.nc_grammar.specs.Maybe.{two_at, if_first, if_first_by}
 use Rattle.nc_grammar.proofs.Split.{head_is, not_nil}
-use Rattle.nc_grammar.proofs.Exact.{Blocked, Tells, IsSet, IsExact, IsExact-same}
+use Rattle.nc_grammar.proofs.Exact.{Blocked, IsRightReading, IsSet, IsExact, IsExact-same}
 use Rattle.nc_grammar.proofs.Label.{nothing}
 use Rattle.nc_grammar.proofs.Seq.{Both, both_exact, either}
 use Rattle.nc_grammar.proofs.Rows.{IsLabelled, labelled_exact}
@@ -55,7 +55,7 @@ left_none test L M k c r passes p q e h a (on_left l) = h a l
 left_none test L M k c r passes [] q e h a (on_right l) = k.some_others a l
 left_none test L M k c r passes (d ∷ p) q e h a (on_right l) = both_ways (test d) (k.others a d p l) (subst (λ (i : ℕ). test i ≡ true) (head_is c d r (p ++ q) e) passes)
 
-left_tells : {A : Type 0} (test : ℕ → Bool) (L M : A → List ℕ → Type 0) → IsChoiceBy test L M → (c : ℕ) (r : List ℕ) → test c ≡ true → (x : Read A) → Tells L (c ∷ r) x → Tells (IsEither L M) (c ∷ r) x
+left_tells : {A : Type 0} (test : ℕ → Bool) (L M : A → List ℕ → Type 0) → IsChoiceBy test L M → (c : ℕ) (r : List ℕ) → test c ≡ true → (x : Read A) → IsRightReading L (c ∷ r) x → IsRightReading (IsEither L M) (c ∷ r) x
 left_tells test L M k c r passes (Found a q) m = record { front = m.front; text = on_left m.text; parts = m.parts; blocked = left_blocked test L M k c r passes m.front q m.parts m.blocked }
 left_tells test L M k c r passes (Stuck q) m =
     record {
@@ -84,7 +84,7 @@ right_none test L M k t other p q e h a (on_right l) = h a l
 right_none test L M k t other [] q e h a (on_left l) = k.some a l
 right_none test L M k t other (d ∷ p) q e h a (on_left l) = other d (p ++ q) e (k.begins a d p l)
 
-right_tells : {A : Type 0} (test : ℕ → Bool) (L M : A → List ℕ → Type 0) → IsChoiceBy test L M → (t : List ℕ) → NotBegun test t → (x : Read A) → Tells M t x → Tells (IsEither L M) t x
+right_tells : {A : Type 0} (test : ℕ → Bool) (L M : A → List ℕ → Type 0) → IsChoiceBy test L M → (t : List ℕ) → NotBegun test t → (x : Read A) → IsRightReading M t x → IsRightReading (IsEither L M) t x
 right_tells test L M k t other (Found a q) m = record { front = m.front; text = on_right m.text; parts = m.parts; blocked = right_blocked test L M k t other m.front q m.parts m.blocked }
 right_tells test L M k t other (Stuck q) m =
     record {
@@ -95,10 +95,10 @@ right_tells test L M k t other (Stuck q) m =
       none = right_none test L M k t other m.front q m.parts m.none;
     }
 
-choice_tells : {A : Type 0} (test : ℕ → Bool) (L M : A → List ℕ → Type 0) (f g : List ℕ → Read A) → IsChoiceBy test L M → ((t : List ℕ) → Tells L t (f t)) → ((t : List ℕ) → Tells M t (g t)) → (t : List ℕ) → Tells (IsEither L M) t (if_first_by test f g t)
+choice_tells : {A : Type 0} (test : ℕ → Bool) (L M : A → List ℕ → Type 0) (f g : List ℕ → Read A) → IsChoiceBy test L M → ((t : List ℕ) → IsRightReading L t (f t)) → ((t : List ℕ) → IsRightReading M t (g t)) → (t : List ℕ) → IsRightReading (IsEither L M) t (if_first_by test f g t)
 choice_tells test L M f g k x y [] = right_tells test L M k [] (λ c w e passes. not_nil c w (sym e)) (g []) (y [])
 choice_tells test L M f g k x y (c ∷ r) =
-    (elim (test c) as (λ i. test c ≡ i → Tells (IsEither L M) (c ∷ r) (cond i (f (c ∷ r)) (g (c ∷ r)))) [
+    (elim (test c) as (λ i. test c ≡ i → IsRightReading (IsEither L M) (c ∷ r) (cond i (f (c ∷ r)) (g (c ∷ r)))) [
       | true ↦ λ e. left_tells test L M k c r e (f (c ∷ r)) (x (c ∷ r))
       | false ↦ λ e. right_tells test L M k (c ∷ r) (λ d w h passes. both_ways (test c) e (subst (λ (i : ℕ). test i ≡ true) (sym (head_is c d r w h)) passes)) (g (c ∷ r)) (y (c ∷ r))
     ]) refl

@@ -5,11 +5,11 @@ use Rattle.std.proofs.lemmas.Bool.{cases_lt}
 use Rattle.nc_grammar.specs.declared.fault.Fault.{Fault}
 use Rattle.nc_grammar.specs.declared.fault.Fault.TheVariants as faults
 use Rattle.nc_grammar.specs.Reading.{Read, Found, Stuck, Begins, IsLongest}
-use Rattle.nc_grammar.specs.Exact.{Blocked, Tells, IsExact}
+use Rattle.nc_grammar.specs.Exact.{Blocked, IsRightReading, IsExact}
 use Rattle.nc_grammar.specs.Gives.{Gives}
 use Rattle.nc_grammar.specs.Whole.{IsBad, IsWhole, ended}
 
-pub whole_ok : {A : Type 0} (L : A → List ℕ → Type 0) (t : List ℕ) (a : A) → Tells L t (Found a []) → L a t
+pub whole_ok : {A : Type 0} (L : A → List ℕ → Type 0) (t : List ℕ) (a : A) → IsRightReading L t (Found a []) → L a t
 whole_ok L t a m = subst (L a) (sym (m.parts ∙ append-nil m.front)) m.text
 
 -- the longest prefix ends where nothing goes on
@@ -37,7 +37,7 @@ longest L t p r e h b =
     by_length m le g (inl lt) = absurd (longer_none L p r b m lt (subst (λ (l : List ℕ). m ≤ length l) e le) (subst (λ (l : List ℕ). Begins L (take m l)) e g))
     by_length m le g (inr no_more) = no_more
 
-pub whole_more : {A : Type 0} (L : A → List ℕ → Type 0) (t : List ℕ) (a : A) (r : List ℕ) → 0 < length r → Tells L t (Found a r) → IsBad L t (length t - length r)
+pub whole_more : {A : Type 0} (L : A → List ℕ → Type 0) (t : List ℕ) (a : A) (r : List ℕ) → 0 < length r → IsRightReading L t (Found a r) → IsBad L t (length t - length r)
 whole_more L t a [] some m = absurd (omega (arith, some))
 whole_more L t a (c ∷ r) some m =
     record {
@@ -45,15 +45,15 @@ whole_more L t a (c ∷ r) some m =
       place = longest L t m.front (c ∷ r) m.parts (record { value = a; rest = []; text = subst (L a) (sym (append-nil m.front)) m.text }) m.blocked;
     }
 
-pub whole_stuck : {A : Type 0} (L : A → List ℕ → Type 0) (t r : List ℕ) → Tells L t (Stuck r) → IsBad L t (length t - length r)
+pub whole_stuck : {A : Type 0} (L : A → List ℕ → Type 0) (t r : List ℕ) → IsRightReading L t (Stuck r) → IsBad L t (length t - length r)
 whole_stuck L t [] m = record { none = λ a h. m.none a (subst (L a) (m.parts ∙ append-nil m.front) h); place = longest L t m.front [] m.parts m.begun m.blocked }
 whole_stuck L t (c ∷ r) m = record { none = λ a h. m.blocked a r (subst (L a) m.parts h); place = longest L t m.front (c ∷ r) m.parts m.begun m.blocked }
 
 -- what is made of a reading that is right is told rightly of the whole text
 pub whole_is : {A : Type 0} (L : A → List ℕ → Type 0) (stays : ℕ → Bool) (read : List ℕ → Read A) → IsExact L stays read → (t rest : List ℕ) (outcome : Result A Fault) → Gives rest outcome (read t) → IsWhole L t (ended (length t) rest outcome)
-whole_is L stays read x t [] (Ok a) e = whole_ok L t a (subst (λ (y : Read _). Tells L t y) e (x.tells t))
-whole_is L stays read x t (c ∷ r) (Ok a) e = whole_more L t a (c ∷ r) (omega arith) (subst (λ (y : Read _). Tells L t y) e (x.tells t))
-whole_is L stays read x t [] (Err faults.Stuck) e = whole_stuck L t [] (subst (λ (y : Read _). Tells L t y) e (x.tells t))
-whole_is L stays read x t (c ∷ r) (Err faults.Stuck) e = whole_stuck L t (c ∷ r) (subst (λ (y : Read _). Tells L t y) e (x.tells t))
+whole_is L stays read x t [] (Ok a) e = whole_ok L t a (subst (λ (y : Read _). IsRightReading L t y) e (x.tells t))
+whole_is L stays read x t (c ∷ r) (Ok a) e = whole_more L t a (c ∷ r) (omega arith) (subst (λ (y : Read _). IsRightReading L t y) e (x.tells t))
+whole_is L stays read x t [] (Err faults.Stuck) e = whole_stuck L t [] (subst (λ (y : Read _). IsRightReading L t y) e (x.tells t))
+whole_is L stays read x t (c ∷ r) (Err faults.Stuck) e = whole_stuck L t (c ∷ r) (subst (λ (y : Read _). IsRightReading L t y) e (x.tells t))
 whole_is L stays read x t [] (Err faults.NoMemory) e = tt
 whole_is L stays read x t (c ∷ r) (Err faults.NoMemory) e = tt

@@ -6,7 +6,7 @@ use Rattle.nc_grammar.specs.Reading.{Begins}
 use Rattle.nc_grammar.specs.Label.{shared, reach, is_front, place_from, word_found, word_at, IsWordFrom, IsWord}
 pub use Rattle.nc_grammar.specs.Label.{repeats, word_stays}
 use Rattle.nc_grammar.specs.Label.{is_text, stands, goes_past, some_past, word_past}
-use Rattle.nc_grammar.proofs.Exact.{Blocked, Tells, IsExact}
+use Rattle.nc_grammar.proofs.Exact.{Blocked, IsRightReading, IsExact}
 
 eqb-refl : (n : ℕ) → eqb n n ≡ true
 eqb-refl n = eq-eqb n n refl
@@ -127,14 +127,14 @@ word_begun w ws t =
     let h = shared_front f.word t in
     record { value = f.place; rest = h.0; text = subst (λ (l : List ℕ). IsWord (w ∷ ws) f.place l) (h.2 ∙ ap (λ (k : ℕ). take k t ++ h.0) f.far) f.is_word }
 
-word_tells_of : (all : List (List ℕ)) (t : List ℕ) (n : ℕ) → n ≤ length t → Begins (IsWord all) (take n t) → Blocked (IsWord all) (take n t) (drop n t) → Tells (IsWord all) t (word_found (place_from 0 n t all) (drop n t))
+word_tells_of : (all : List (List ℕ)) (t : List ℕ) (n : ℕ) → n ≤ length t → Begins (IsWord all) (take n t) → Blocked (IsWord all) (take n t) (drop n t) → IsRightReading (IsWord all) t (word_found (place_from 0 n t all) (drop n t))
 word_tells_of all t n le begun blocked =
-    (elim (place_from 0 n t all) as (λ o. place_from 0 n t all ≡ o → Tells (IsWord all) t (word_found o (drop n t))) [
+    (elim (place_from 0 n t all) as (λ o. place_from 0 n t all ≡ o → IsRightReading (IsWord all) t (word_found o (drop n t))) [
       | Some i ↦ λ e. record { front = take n t; text = place_found 0 n t all i le e; parts = sym (take-append-drop n t); blocked = blocked }
       | None ↦ λ e. record { front = take n t; begun = begun; parts = sym (take-append-drop n t); blocked = blocked; none = λ i h. place_none 0 n t all i le e h }
     ]) refl
 
-word_tells : (w : List ℕ) (ws : List (List ℕ)) (t : List ℕ) → Tells (IsWord (w ∷ ws)) t (word_at (w ∷ ws) t)
+word_tells : (w : List ℕ) (ws : List (List ℕ)) (t : List ℕ) → IsRightReading (IsWord (w ∷ ws)) t (word_at (w ∷ ws) t)
 word_tells w ws t = word_tells_of (w ∷ ws) t (reach (w ∷ ws) t) (reach_within (w ∷ ws) t) (word_begun w ws t) (word_blocked (w ∷ ws) t (drop (reach (w ∷ ws) t) t) refl)
 
 is_text-refl : (w : List ℕ) → is_text w w ≡ true

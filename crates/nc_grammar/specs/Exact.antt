@@ -23,9 +23,9 @@ pub record IsStuck {A : Type 0} (L : A → List ℕ → Type 0) (t : List ℕ) (
   pub none : (a : A) → L a front → ⊥
 
 -- what is read of a text is so
-abbrev pub Tells : {A : Type 0} → (A → List ℕ → Type 0) → List ℕ → Read A → Type 0
-Tells L t (Found a r) = IsFound L t a r
-Tells L t (Stuck r) = IsStuck L t r
+abbrev pub IsRightReading : {A : Type 0} → (A → List ℕ → Type 0) → List ℕ → Read A → Type 0
+IsRightReading L t (Found a r) = IsFound L t a r
+IsRightReading L t (Stuck r) = IsStuck L t r
 
 -- no text has two values, there is some value, and behind a whole text only the bytes that stay can go on
 pub record IsSet {A : Type 0} (L : A → List ℕ → Type 0) (stays : ℕ → Bool) : Type 0 where
@@ -38,4 +38,4 @@ pub record IsSet {A : Type 0} (L : A → List ℕ → Type 0) (stays : ℕ → B
 -- a reader tells rightly of each text
 pub record IsExact {A : Type 0} (L : A → List ℕ → Type 0) (stays : ℕ → Bool) (read : List ℕ → Read A) : Type 0 where
   pub set : IsSet L stays
-  pub tells : (t : List ℕ) → Tells L t (read t)
+  pub tells : (t : List ℕ) → IsRightReading L t (read t)

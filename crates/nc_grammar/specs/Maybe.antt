@@ -1,14 +1,7 @@
 -- A value or `-`, values joined by commas, two values with a text between them, and a choice by the first byte.
-use Rattle.std.specs.Prelude.{◌≡◌, ◌≤◌, ℕ, zero, suc, Bool, drop, List, [], ◌∷◌, length, Option, Some, None, ◌==◌, if◌then◌else◌}
-use Rattle.std.specs.List.{AllByRecursion}
-use Rattle.nc_types.specs.Written.{joined}
+use Rattle.std.specs.Prelude.{ℕ, zero, suc, Bool, drop, List, [], ◌∷◌, length, Option, Some, None, ◌==◌, if◌then◌else◌}
 use Rattle.nc_grammar.specs.Reading.{Read, Found, go_on, map_read, with_first, first_passes}
 use Rattle.nc_grammar.specs.Label.{field_at}
-
--- a text is `-` for no value, or the value's
-abbrev pub IsMaybe : {A : Type 0} → (A → List ℕ → Type 0) → Option A → List ℕ → Type 0
-IsMaybe L None u = u ≡ 45 ∷ []
-IsMaybe L (Some a) u = L a u
 
 -- a text begins with a byte
 abbrev pub begins_with : ℕ → List ℕ → Bool
@@ -44,27 +37,9 @@ if_first_by test f g t = if first_passes test t then f t else g t
 abbrev pub if_first : {A : Type 0} → ℕ → (List ℕ → Read A) → (List ℕ → Read A) → List ℕ → Read A
 if_first b f g t = if_first_by (λ c. c == b) f g t
 
--- ---- which values have a text, and the text
-
--- a number up to a limit
-abbrev pub AtMost : ℕ → ℕ → Type 0
-AtMost limit n = n ≤ limit
+-- ---- which values have a text
 
 -- no value, or one that fits
 abbrev pub OrNone : {A : Type 0} → (A → Type 0) → Option A → Type 0
 OrNone F None = Unit {0}
 OrNone F (Some a) = F a
-
--- `-` for no value
-abbrev pub or_dash : {A : Type 0} → (A → List ℕ) → Option A → List ℕ
-or_dash text None = 45 ∷ []
-or_dash text (Some a) = text a
-
--- the texts of values, joined by commas
-abbrev pub joined_text : {A : Type 0} → (A → List ℕ) → List A → List ℕ
-joined_text text xs = joined text xs
-
--- one value or more, which all fit
-abbrev pub SomeFit : {A : Type 0} → (A → Type 0) → List A → Type 0
-SomeFit F [] = ⊥
-SomeFit F (a ∷ xs) = F a × AllByRecursion F xs

@@ -25,16 +25,6 @@ abbrev pub Values : (K : Kit) → List (Field K) → Type 0
 Values K [] = Unit {0}
 Values K (f ∷ fs) = K.Value f.shape × Values K fs
 
--- each of them fits its shape
-abbrev pub AllFit : (K : Kit) (fs : List (Field K)) → Values K fs → Type 0
-AllFit K [] x = Unit {0}
-AllFit K (f ∷ fs) x = K.Fits f.shape x.0 × AllFit K fs x.1
-
--- the text of the fields behind a text
-abbrev pub text_onto : (K : Kit) (front : List ℕ) (fs : List (Field K)) → Values K fs → List ℕ
-text_onto K front [] x = front
-text_onto K front (f ∷ fs) x = text_onto K (front ++ label_of f.name ++ K.text f.shape x.0) fs x.1
-
 -- reads fields, each behind its label
 abbrev pub fields_at : (K : Kit) (fs : List (Field K)) → List ℕ → Read (Values K fs)
 fields_at K [] t = Found tt t
@@ -49,12 +39,6 @@ pub record Row (K : Kit) (E : Type 0) : Type 0 where
 -- reads the fields of a row
 abbrev pub row_at : {E : Type 0} (K : Kit) (r : Row K E) → List ℕ → Read E
 row_at K r t = map_read r.make (fields_at K r.fields t)
-
--- the row at a place, the last one past the end
-abbrev pub nth_row : {E : Type 0} (K : Kit) → Row K E → List (Row K E) → ℕ → Row K E
-nth_row K r rs zero = r
-nth_row K r [] (suc i) = r
-nth_row K r (s ∷ rs) (suc i) = nth_row K s rs i
 
 -- the words of some rows
 abbrev pub words_of : {E : Type 0} (K : Kit) → List (Row K E) → List (List ℕ)

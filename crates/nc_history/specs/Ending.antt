@@ -41,7 +41,8 @@ NobodyIsEnded events = (v k : ℕ) → is_ended v k events ≡ false
 -- in a step in which a worker takes an alert, exactly those of its subscribers are ended so that the alert names and that start or stand;
 -- in a step that begins otherwise nobody is
 abbrev pub EndingAt : List Event → Event → List Event → Type 0
-EndingAt h (Took w from n kind) events = (v k : ℕ) → is_ended v k events ≡ (v == w) && (is_first_named k (pending from w h) && is_there (stage_of k (own w h)))
+EndingAt h (Took w from n kind) events = (v k : ℕ)
+    → is_ended v k events ≡ (v == w) && (is_first_named k (pending from w h) && is_there (stage_of k (own w h)))
 EndingAt h (Clock w t) events = NobodyIsEnded events
 EndingAt h (Asked w r None act list status rule) events = NobodyIsEnded events
 EndingAt h (Subscribed w k None list mode start timeout close) events = NobodyIsEnded events

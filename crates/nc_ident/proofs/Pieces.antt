@@ -5,7 +5,7 @@ use Rattle.std.specs.List.{AllByRecursion, flat_map}
 use Rattle.std.proofs.lemmas.Int.{ints}
 use Rattle.std.proofs.lemmas.List.{length-map}
 use Rattle.nc_types.specs.Id.{IsTag, last_second}
-use Rattle.nc_types.specs.Cursor.{CursorAt, AreTags}
+use Rattle.nc_types.specs.Cursor.{CursorAt, AreTags, as_cursor}
 use Rattle.nc_grammar.specs.declared.fault.Fault.{Fault}
 use Rattle.nc_grammar.specs.Gives.{Gives}
 use Rattle.nc_grammar.specs.Whole.{IsWhole, IsBad, ended}
@@ -20,7 +20,7 @@ use Rattle.nc_grammar.proofs.Two.{IsTwo, two_exact}
 use Rattle.nc_grammar.specs.Maybe.{two_at}
 use Rattle.nc_types.specs.Written.{comma, joined}
 use Rattle.nc_ident.specs.Spelling.{SpellsTag, SpellsTime, Piece, piece_text, SpellsTags, SpellsId, AreTagsOf, IsIdOf}
-use Rattle.nc_ident.specs.Reader.{tags_at, id_of, id_at}
+use Rattle.nc_ident.specs.Reader.{spelled_tags_at, spelled_id_at}
 use Rattle.nc_ident.proofs.Tag.{IsElement, bare, boxed}
 use Rattle.nc_ident.proofs.Tags.{IsMore, AreTagTexts, tags_stay, joined_exact}
 
@@ -138,34 +138,34 @@ tags_back gs u m = by_pieces m.pieces m.tags_are m.text_is m.some m.each m.brack
 abbrev IsTimeOf : ℕ → List ℕ → Type 0
 IsTimeOf time u = SpellsTime u time
 
-pub tags_exact : IsExact AreTagsOf tags_stay tags_at
-tags_exact = IsExact-same AreTagTexts AreTagsOf tags_stay tags_at tags_there tags_back joined_exact
+pub tags_exact : IsExact AreTagsOf tags_stay spelled_tags_at
+tags_exact = IsExact-same AreTagTexts AreTagsOf tags_stay spelled_tags_at tags_there tags_back joined_exact
 
 -- which bytes can go on behind an id
 abbrev pub id_stays : ℕ → Bool
 id_stays = either is_digit (either nothing tags_stay)
 
-id_there : (cursor : CursorAt) (u : List ℕ) → Named id_of (IsTwo (58 ∷ []) IsTimeOf AreTagsOf) cursor u → IsIdOf cursor u
+id_there : (cursor : CursorAt) (u : List ℕ) → Named as_cursor (IsTwo (58 ∷ []) IsTimeOf AreTagsOf) cursor u → IsIdOf cursor u
 id_there cursor u m =
     let two = m.2 in
     subst (λ (c : CursorAt). IsIdOf c u) (sym m.1) (record { before = two.left; behind = two.right; text_is = two.parts ∙ sym (append_assoc two.left (58 ∷ []) two.right); time = two.first; tags = two.second })
 
-id_back : (cursor : CursorAt) (u : List ℕ) → IsIdOf cursor u → Named id_of (IsTwo (58 ∷ []) IsTimeOf AreTagsOf) cursor u
+id_back : (cursor : CursorAt) (u : List ℕ) → IsIdOf cursor u → Named as_cursor (IsTwo (58 ∷ []) IsTimeOf AreTagsOf) cursor u
 id_back cursor u m = ((cursor.time, cursor.tags), refl, record { left = m.before; right = m.behind; first = m.time; second = m.tags; parts = m.text_is ∙ append_assoc m.before (58 ∷ []) m.behind })
 
-pub id_exact : IsExact IsIdOf id_stays id_at
+pub id_exact : IsExact IsIdOf id_stays spelled_id_at
 id_exact =
-    IsExact-same (Named id_of (IsTwo (58 ∷ []) IsTimeOf AreTagsOf)) IsIdOf id_stays id_at id_there id_back
-    (IsExact-named id_of (IsTwo (58 ∷ []) IsTimeOf AreTagsOf) id_stays (two_at (58 ∷ []) (digits_at 12 last_second) tags_at)
-    (two_exact 58 [] IsTimeOf AreTagsOf is_digit tags_stay (digits_at 12 last_second) tags_at refl (digits_exact 12 last_second (omega arith)) tags_exact))
+    IsExact-same (Named as_cursor (IsTwo (58 ∷ []) IsTimeOf AreTagsOf)) IsIdOf id_stays spelled_id_at id_there id_back
+    (IsExact-named as_cursor (IsTwo (58 ∷ []) IsTimeOf AreTagsOf) id_stays (two_at (58 ∷ []) (digits_at 12 last_second) spelled_tags_at)
+    (two_exact 58 [] IsTimeOf AreTagsOf is_digit tags_stay (digits_at 12 last_second) spelled_tags_at refl (digits_exact 12 last_second (omega arith)) tags_exact))
 
 -- ---- whole texts
 
-pub tags_end : (t rest : List ℕ) (outcome : Result (List ℤ) Fault) → Gives rest outcome (tags_at t) → IsWhole AreTagsOf t (ended (length t) rest outcome)
-tags_end = whole_is AreTagsOf tags_stay tags_at tags_exact
+pub tags_end : (t rest : List ℕ) (outcome : Result (List ℤ) Fault) → Gives rest outcome (spelled_tags_at t) → IsWhole AreTagsOf t (ended (length t) rest outcome)
+tags_end = whole_is AreTagsOf tags_stay spelled_tags_at tags_exact
 
-pub id_ends : (t rest : List ℕ) (outcome : Result CursorAt Fault) → Gives rest outcome (id_at t) → IsWhole IsIdOf t (ended (length t) rest outcome)
-id_ends = whole_is IsIdOf id_stays id_at id_exact
+pub id_ends : (t rest : List ℕ) (outcome : Result CursorAt Fault) → Gives rest outcome (spelled_id_at t) → IsWhole IsIdOf t (ended (length t) rest outcome)
+id_ends = whole_is IsIdOf id_stays spelled_id_at id_exact
 
 pub one_list : (text : List ℕ) (a b : List ℤ) → SpellsTags text a → SpellsTags text b → a ≡ b
 one_list text a b m n = tags_exact.set.unique a b text m n

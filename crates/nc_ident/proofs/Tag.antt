@@ -5,7 +5,8 @@ use Rattle.nc_grammar.specs.Reading.{Read, Found, Stuck, map_read, go_on, with_f
 use Rattle.nc_grammar.specs.Number.{is_digit}
 use Rattle.nc_grammar.specs.Digits.{IsDigits, digits_at}
 use Rattle.nc_grammar.specs.Label.{label_at, field_at}
-use Rattle.nc_grammar.specs.Maybe.{IsMaybe, option_at, begins_with, if_first}
+use Rattle.nc_grammar.specs.Maybe.{option_at, begins_with, if_first}
+use Rattle.nc_grammar.proofs.Texts.{IsMaybe}
 use Rattle.nc_grammar.proofs.Split.{head_is, not_nil}
 use Rattle.nc_grammar.proofs.Exact.{IsExact, IsExact-same, IsExact-named, IsExact-read, IsSet-wider, Named}
 use Rattle.nc_grammar.proofs.Seq.{Both, both_exact, read_both, either}
@@ -15,7 +16,7 @@ use Rattle.nc_grammar.proofs.Label.{nothing, IsLabel, label_exact}
 use Rattle.nc_grammar.proofs.Rows.{IsLabelled, labelled_exact}
 use Rattle.nc_grammar.proofs.Two.{IsEither, on_left, on_right, IsChoice, choice_exact}
 use Rattle.nc_ident.specs.Spelling.{SpellsTag}
-use Rattle.nc_ident.specs.Reader.{tag_at, closed_tag_at, element_at}
+use Rattle.nc_ident.specs.Reader.{spelled_tag_at, spelled_closed_tag_at, spelled_element_at}
 
 -- ---- a tag
 
@@ -48,16 +49,16 @@ named_twice : (y : Read ℕ) → map_read tag_of (map_read Some y) ≡ map_read 
 named_twice (Found n r) = refl
 named_twice (Stuck r) = refl
 
-tag_reads : (t : List ℕ) → map_read tag_of (option_at (digits_at 5 65535) t) ≡ tag_at t
+tag_reads : (t : List ℕ) → map_read tag_of (option_at (digits_at 5 65535) t) ≡ spelled_tag_at t
 tag_reads t =
     elim (begins_with 45 t) as (λ b. map_read tag_of (cond b (Found None (drop 1 t)) (map_read Some (digits_at 5 65535 t))) ≡ cond b (Found (negsuc 0) (drop 1 t)) (map_read pos (digits_at 5 65535 t))) [
       | true ↦ refl
       | false ↦ named_twice (digits_at 5 65535 t)
     ]
 
-pub tag_exact : IsExact IsTagText is_digit tag_at
+pub tag_exact : IsExact IsTagText is_digit spelled_tag_at
 tag_exact =
-    IsExact-read IsTagText is_digit (λ t. map_read tag_of (option_at (digits_at 5 65535) t)) tag_at tag_reads
+    IsExact-read IsTagText is_digit (λ t. map_read tag_of (option_at (digits_at 5 65535) t)) spelled_tag_at tag_reads
     (IsExact-same (Named tag_of (IsMaybe (IsDigits 5 65535))) IsTagText is_digit _ tag_there tag_back
     (IsExact-named tag_of (IsMaybe (IsDigits 5 65535)) is_digit (option_at (digits_at 5 65535)) (maybe_exact (IsDigits 5 65535) is_digit (digits_at 5 65535) digits_no_dash (digits_exact 5 65535 (omega arith)))))
 
@@ -87,11 +88,11 @@ pub both_is : {A B C : Type 0} (to : A × B → C) (y : Read A) (f : A → List 
 both_is to (Found a r) f = with_is to a (f a r)
 both_is to (Stuck r) f = refl
 
-closed_exact : IsExact IsClosed (either is_digit nothing) closed_tag_at
+closed_exact : IsExact IsClosed (either is_digit nothing) spelled_closed_tag_at
 closed_exact =
-    IsExact-read IsClosed (either is_digit nothing) _ closed_tag_at (λ t. both_is (λ (p : ℤ × Unit {0}). (p.0, false)) (tag_at t) (λ g. label_at (93 ∷ [])))
-    (IsExact-named (λ (p : ℤ × Unit {0}). (p.0, false)) (Both IsTagText (λ g. IsLabel (93 ∷ []))) (either is_digit nothing) (read_both tag_at (λ g. label_at (93 ∷ [])))
-    (both_exact IsTagText (λ g. IsLabel (93 ∷ [])) is_digit nothing tag_at (λ g. label_at (93 ∷ [])) tag_exact (λ g u h. label_exact (93 ∷ []))
+    IsExact-read IsClosed (either is_digit nothing) _ spelled_closed_tag_at (λ t. both_is (λ (p : ℤ × Unit {0}). (p.0, false)) (spelled_tag_at t) (λ g. label_at (93 ∷ [])))
+    (IsExact-named (λ (p : ℤ × Unit {0}). (p.0, false)) (Both IsTagText (λ g. IsLabel (93 ∷ []))) (either is_digit nothing) (read_both spelled_tag_at (λ g. label_at (93 ∷ [])))
+    (both_exact IsTagText (λ g. IsLabel (93 ∷ [])) is_digit nothing spelled_tag_at (λ g. label_at (93 ∷ [])) tag_exact (λ g u h. label_exact (93 ∷ []))
     (λ g x c v h. subst (λ (i : ℕ). is_digit i ≡ false) (sym (head_is c 93 v [] h)) refl)))
 
 -- ---- a tag that may stand in brackets
@@ -107,8 +108,8 @@ IsOpened = IsLabelled (91 ∷ []) IsClosed
 abbrev IsBare : Bool → ℤ × Bool → List ℕ → Type 0
 IsBare unused = Named (λ g. (g, unused)) IsTagText
 
-bare_exact : (unused : Bool) → IsExact (IsBare unused) is_digit (λ t. map_read (λ g. (g, unused)) (tag_at t))
-bare_exact unused = IsExact-named (λ g. (g, unused)) IsTagText is_digit tag_at tag_exact
+bare_exact : (unused : Bool) → IsExact (IsBare unused) is_digit (λ t. map_read (λ g. (g, unused)) (spelled_tag_at t))
+bare_exact unused = IsExact-named (λ g. (g, unused)) IsTagText is_digit spelled_tag_at tag_exact
 
 pair_eq : {A B : Type 0} (x y : A × B) → x.0 ≡ y.0 → x.1 ≡ y.1 → x ≡ y
 pair_eq {A} {B} x y e f = ap (λ (a : A). (a, x.1)) e ∙ ap (λ (b : B). (y.0, b)) f
@@ -149,11 +150,11 @@ bare_back : (e : ℤ × Bool) (u : List ℕ) → IsElement false e u → IsBare 
 bare_back e u (bare m f) = (e.0, pair_eq e (e.0, false) refl f, m)
 bare_back e u (boxed v m o f h) = absurd cc
 
-element_reads : (t : List ℕ) → if_first 91 (field_at (91 ∷ []) closed_tag_at) (λ t. map_read (λ g. (g, true)) (tag_at t)) t ≡ element_at true t
+element_reads : (t : List ℕ) → if_first 91 (field_at (91 ∷ []) spelled_closed_tag_at) (λ t. map_read (λ g. (g, true)) (spelled_tag_at t)) t ≡ spelled_element_at true t
 element_reads [] = refl
 element_reads (c ∷ r) =
-    (elim (eqb c 91) as (λ b. eqb c 91 ≡ b → cond b (field_at (91 ∷ []) closed_tag_at (c ∷ r)) (map_read (λ g. (g, true)) (tag_at (c ∷ r))) ≡ cond b (closed_tag_at r) (map_read (λ g. (g, true)) (tag_at (c ∷ r)))) [
-      | true ↦ λ e. ap (λ (i : ℕ). field_at (91 ∷ []) closed_tag_at (i ∷ r)) (eqb-true c 91 e)
+    (elim (eqb c 91) as (λ b. eqb c 91 ≡ b → cond b (field_at (91 ∷ []) spelled_closed_tag_at (c ∷ r)) (map_read (λ g. (g, true)) (spelled_tag_at (c ∷ r))) ≡ cond b (spelled_closed_tag_at r) (map_read (λ g. (g, true)) (spelled_tag_at (c ∷ r)))) [
+      | true ↦ λ e. ap (λ (i : ℕ). field_at (91 ∷ []) spelled_closed_tag_at (i ∷ r)) (eqb-true c 91 e)
       | false ↦ λ e. refl
     ]) refl
 
@@ -161,12 +162,12 @@ element_reads (c ∷ r) =
 abbrev pub tag_stays : ℕ → Bool
 tag_stays = either (either nothing (either is_digit nothing)) is_digit
 
-pub element_exact : (unused : Bool) → IsExact (IsElement unused) tag_stays (element_at unused)
+pub element_exact : (unused : Bool) → IsExact (IsElement unused) tag_stays (spelled_element_at unused)
 element_exact true =
-    IsExact-read (IsElement true) tag_stays _ (element_at true) element_reads
+    IsExact-read (IsElement true) tag_stays _ (spelled_element_at true) element_reads
     (IsExact-same (IsEither IsOpened (IsBare true)) (IsElement true) tag_stays _ element_there element_back
-    (choice_exact 91 IsOpened (IsBare true) (either nothing (either is_digit nothing)) is_digit (field_at (91 ∷ []) closed_tag_at) (λ t. map_read (λ g. (g, true)) (tag_at t)) is_choice
-    (labelled_exact (91 ∷ []) IsClosed (either is_digit nothing) closed_tag_at closed_exact) (bare_exact true)))
+    (choice_exact 91 IsOpened (IsBare true) (either nothing (either is_digit nothing)) is_digit (field_at (91 ∷ []) spelled_closed_tag_at) (λ t. map_read (λ g. (g, true)) (spelled_tag_at t)) is_choice
+    (labelled_exact (91 ∷ []) IsClosed (either is_digit nothing) spelled_closed_tag_at closed_exact) (bare_exact true)))
 element_exact false =
     let x = IsExact-same (IsBare false) (IsElement false) is_digit _ (bare_there false) bare_back (bare_exact false) in
     record { set = IsSet-wider (IsElement false) is_digit tag_stays (λ c e. or_right _ (is_digit c) e) x.set; tells = x.tells }

@@ -4,10 +4,10 @@ use Rattle.std.proofs.lemmas.Bool.{eqb-true, eqb-false, eq-eqb, both_ways, or_le
 use Rattle.nc_grammar.specs.Reading.{Read, Found, Stuck, go_on, map_read, with_first}
 use Rattle.nc_grammar.specs.Maybe.{begins_with}
 use Rattle.nc_grammar.proofs.Split.{longer, shorter, same, split, head_is, tail_is, not_nil}
-use Rattle.nc_grammar.proofs.Exact.{Blocked, Tells, IsSet, IsExact, Named, IsSet-named, Tells-named}
+use Rattle.nc_grammar.proofs.Exact.{Blocked, IsRightReading, IsSet, IsExact, Named, IsSet-named, IsRightReading-named}
 use Rattle.nc_grammar.proofs.Seq.{Both, IsSeq, both_set, both_tells, either}
 use Rattle.nc_grammar.proofs.More.{or_comma, Shortens, shortens}
-use Rattle.nc_ident.specs.Reader.{element_at, more_tags_at, tags_at, put_last}
+use Rattle.nc_ident.specs.Reader.{spelled_element_at, more_spelled_tags_at, spelled_tags_at, put_last}
 use Rattle.nc_ident.proofs.Tag.{IsElement, tag_stays, element_exact, both_is}
 
 -- tags each behind a comma, of which one may stand in brackets where these are unused
@@ -87,7 +87,7 @@ comma_none unused p h (g ∷ gs) m = h ((g, m.0), gs) (record { left = m.1; righ
 comma_text : (unused : Bool) (y : (ℤ × Bool) × List ℤ) (u : List ℕ) → Pair unused y u → IsMore unused (put_first y) (44 ∷ u)
 comma_text unused y u m = (y.0.1, m.left, m.right, m.first, m.second, ap (λ (l : List ℕ). 44 ∷ l) m.parts)
 
-comma_tells : (unused : Bool) (t : List ℕ) (x : Read ((ℤ × Bool) × List ℤ)) → Tells (Pair unused) t x → Tells (IsMore unused) (44 ∷ t) (map_read put_first x)
+comma_tells : (unused : Bool) (t : List ℕ) (x : Read ((ℤ × Bool) × List ℤ)) → IsRightReading (Pair unused) t x → IsRightReading (IsMore unused) (44 ∷ t) (map_read put_first x)
 comma_tells unused t (Found y r) m = record { front = 44 ∷ m.front; text = comma_text unused y m.front m.text; parts = ap (λ (l : List ℕ). 44 ∷ l) m.parts; blocked = comma_blocked unused m.front r m.blocked }
 comma_tells unused t (Stuck r) m =
     record {
@@ -98,19 +98,19 @@ comma_tells unused t (Stuck r) m =
       none = comma_none unused m.front m.none;
     }
 
-pair_is : (n : (List ℕ → ℕ)) (y : Read (ℤ × Bool)) → map_read put_first (go_on y (λ e rest. with_first e (more_tags_at (n rest) e.1 rest))) ≡ go_on y (λ e rest. map_read (λ gs. e.0 ∷ gs) (more_tags_at (n rest) e.1 rest))
-pair_is n y = both_is put_first y (λ e rest. more_tags_at (n rest) e.1 rest)
+pair_is : (n : (List ℕ → ℕ)) (y : Read (ℤ × Bool)) → map_read put_first (go_on y (λ e rest. with_first e (more_spelled_tags_at (n rest) e.1 rest))) ≡ go_on y (λ e rest. map_read (λ gs. e.0 ∷ gs) (more_spelled_tags_at (n rest) e.1 rest))
+pair_is n y = both_is put_first y (λ e rest. more_spelled_tags_at (n rest) e.1 rest)
 
-pub more_tells : (n : ℕ) (unused : Bool) (t : List ℕ) → length t ≤ n → Tells (IsMore unused) t (more_tags_at n unused t)
+pub more_tells : (n : ℕ) (unused : Bool) (t : List ℕ) → length t ≤ n → IsRightReading (IsMore unused) t (more_spelled_tags_at n unused t)
 more_tells zero unused [] le = record { front = []; text = refl; parts = refl; blocked = tt }
 more_tells zero unused (c ∷ r) le = absurd (omega (arith, le))
 more_tells (suc n) unused [] le = record { front = []; text = refl; parts = refl; blocked = tt }
 more_tells (suc n) unused (c ∷ r) le =
-    (elim (eqb c 44) as (λ b. eqb c 44 ≡ b → Tells (IsMore unused) (c ∷ r) (cond b (go_on (element_at unused r) (λ e rest. map_read (λ gs. e.0 ∷ gs) (more_tags_at n e.1 rest))) (Found [] (c ∷ r)))) [
-      | true ↦ λ g. subst (λ (k : ℕ). Tells (IsMore unused) (k ∷ r) (go_on (element_at unused r) (λ e rest. map_read (λ gs. e.0 ∷ gs) (more_tags_at n e.1 rest)))) (sym (eqb-true c 44 g))
-          (subst (λ (y : Read (List ℤ)). Tells (IsMore unused) (44 ∷ r) y) (pair_is (λ rest. n) (element_at unused r))
-          (comma_tells unused r (go_on (element_at unused r) (λ e rest. with_first e (more_tags_at n e.1 rest)))
-          (both_tells (IsElement unused) (λ e. IsMore e.1) tag_stays (or_comma tag_stays) (pair_seq unused) (λ e. more_tags_at n e.1) r (element_at unused r)
+    (elim (eqb c 44) as (λ b. eqb c 44 ≡ b → IsRightReading (IsMore unused) (c ∷ r) (cond b (go_on (spelled_element_at unused r) (λ e rest. map_read (λ gs. e.0 ∷ gs) (more_spelled_tags_at n e.1 rest))) (Found [] (c ∷ r)))) [
+      | true ↦ λ g. subst (λ (k : ℕ). IsRightReading (IsMore unused) (k ∷ r) (go_on (spelled_element_at unused r) (λ e rest. map_read (λ gs. e.0 ∷ gs) (more_spelled_tags_at n e.1 rest)))) (sym (eqb-true c 44 g))
+          (subst (λ (y : Read (List ℤ)). IsRightReading (IsMore unused) (44 ∷ r) y) (pair_is (λ rest. n) (spelled_element_at unused r))
+          (comma_tells unused r (go_on (spelled_element_at unused r) (λ e rest. with_first e (more_spelled_tags_at n e.1 rest)))
+          (both_tells (IsElement unused) (λ e. IsMore e.1) tag_stays (or_comma tag_stays) (pair_seq unused) (λ e. more_spelled_tags_at n e.1) r (spelled_element_at unused r)
           (λ e rest h. more_tells n e.1 rest (omega (arith, le, ap length h.parts, length-append h.front rest))) ((element_exact unused).tells r))))
       | false ↦ λ g. record { front = []; text = refl; parts = refl; blocked = λ gs s m. eqb-false c 44 g (more_comma unused gs c s m) }
     ]) refl
@@ -123,22 +123,22 @@ AreTagTexts = Named put_first (Pair true)
 abbrev pub tags_stay : ℕ → Bool
 tags_stay = either tag_stays (or_comma tag_stays)
 
-pub joined_exact : IsExact AreTagTexts tags_stay tags_at
+pub joined_exact : IsExact AreTagTexts tags_stay spelled_tags_at
 joined_exact =
     record {
       set = IsSet-named put_first (Pair true) tags_stay (both_set (IsElement true) (λ e. IsMore e.1) tag_stays (or_comma tag_stays) (pair_seq true));
-      tells = λ t. subst (λ (y : Read (List ℤ)). Tells AreTagTexts t y) (pair_is length (element_at true t))
-          (Tells-named put_first (Pair true) t (go_on (element_at true t) (λ e rest. with_first e (more_tags_at (length rest) e.1 rest)))
-          (both_tells (IsElement true) (λ e. IsMore e.1) tag_stays (or_comma tag_stays) (pair_seq true) (λ e rest. more_tags_at (length rest) e.1 rest) t (element_at true t)
+      tells = λ t. subst (λ (y : Read (List ℤ)). IsRightReading AreTagTexts t y) (pair_is length (spelled_element_at true t))
+          (IsRightReading-named put_first (Pair true) t (go_on (spelled_element_at true t) (λ e rest. with_first e (more_spelled_tags_at (length rest) e.1 rest)))
+          (both_tells (IsElement true) (λ e. IsMore e.1) tag_stays (or_comma tag_stays) (pair_seq true) (λ e rest. more_spelled_tags_at (length rest) e.1 rest) t (spelled_element_at true t)
           (λ e rest h. more_tells (length rest) e.1 rest (omega arith)) ((element_exact true).tells t)));
     }
 
 -- ---- a loop that reads them
 
-pub element_shortens : (unused : Bool) → Shortens (element_at unused)
-element_shortens unused = shortens (IsElement unused) tag_stays (element_at unused) (element_exact unused)
+pub element_shortens : (unused : Bool) → Shortens (spelled_element_at unused)
+element_shortens unused = shortens (IsElement unused) tag_stays (spelled_element_at unused) (element_exact unused)
 
-more_enough : (n m : ℕ) (unused : Bool) (t : List ℕ) → length t ≤ n → length t ≤ m → more_tags_at n unused t ≡ more_tags_at m unused t
+more_enough : (n m : ℕ) (unused : Bool) (t : List ℕ) → length t ≤ n → length t ≤ m → more_spelled_tags_at n unused t ≡ more_spelled_tags_at m unused t
 more_enough zero zero unused t le ge = refl
 more_enough zero (suc m) unused [] le ge = refl
 more_enough zero (suc m) unused (c ∷ t) le ge = absurd (omega (arith, le))
@@ -146,8 +146,8 @@ more_enough (suc n) zero unused [] le ge = refl
 more_enough (suc n) zero unused (c ∷ t) le ge = absurd (omega (arith, ge))
 more_enough (suc n) (suc m) unused [] le ge = refl
 more_enough (suc n) (suc m) unused (c ∷ t) le ge =
-    elim (eqb c 44) as (λ b. cond b (go_on (element_at unused t) (λ e rest. map_read (λ gs. e.0 ∷ gs) (more_tags_at n e.1 rest))) (Found [] (c ∷ t)) ≡ cond b (go_on (element_at unused t) (λ e rest. map_read (λ gs. e.0 ∷ gs) (more_tags_at m e.1 rest))) (Found [] (c ∷ t))) [
-      | true ↦ (elim (element_at unused t) as (λ y. element_at unused t ≡ y → go_on y (λ e rest. map_read (λ gs. e.0 ∷ gs) (more_tags_at n e.1 rest)) ≡ go_on y (λ e rest. map_read (λ gs. e.0 ∷ gs) (more_tags_at m e.1 rest))) [
+    elim (eqb c 44) as (λ b. cond b (go_on (spelled_element_at unused t) (λ e rest. map_read (λ gs. e.0 ∷ gs) (more_spelled_tags_at n e.1 rest))) (Found [] (c ∷ t)) ≡ cond b (go_on (spelled_element_at unused t) (λ e rest. map_read (λ gs. e.0 ∷ gs) (more_spelled_tags_at m e.1 rest))) (Found [] (c ∷ t))) [
+      | true ↦ (elim (spelled_element_at unused t) as (λ y. spelled_element_at unused t ≡ y → go_on y (λ e rest. map_read (λ gs. e.0 ∷ gs) (more_spelled_tags_at n e.1 rest)) ≡ go_on y (λ e rest. map_read (λ gs. e.0 ∷ gs) (more_spelled_tags_at m e.1 rest))) [
         | Found e r ↦ λ h. ap (map_read (λ gs. e.0 ∷ gs)) (more_enough n m e.1 r (omega (arith, le, element_shortens unused t e r h)) (omega (arith, ge, element_shortens unused t e r h)))
         | Stuck r ↦ λ h. refl
       ]) refl
@@ -161,12 +161,12 @@ add_front gs g (Stuck r) = refl
 -- what a call read that found a tag and put it behind the others
 record Put (unused : Bool) (gs hs : List ℤ) (u : List ℕ) (still : Bool) (r : List ℕ) : Type 0 where
   tag : ℤ
-  found : element_at unused u ≡ Found (tag, still) r
+  found : spelled_element_at unused u ≡ Found (tag, still) r
   tags : hs ≡ gs ++ tag ∷ []
 
-is_put : (unused : Bool) (gs hs : List ℤ) (u : List ℕ) (still : Bool) (r : List ℕ) → map_read (put_last gs) (element_at unused u) ≡ Found (hs, still) r → Put unused gs hs u still r
+is_put : (unused : Bool) (gs hs : List ℤ) (u : List ℕ) (still : Bool) (r : List ℕ) → map_read (put_last gs) (spelled_element_at unused u) ≡ Found (hs, still) r → Put unused gs hs u still r
 is_put unused gs hs u still r h =
-    (elim (element_at unused u) as (λ y. element_at unused u ≡ y → map_read (put_last gs) y ≡ Found (hs, still) r → Put unused gs hs u still r) [
+    (elim (spelled_element_at unused u) as (λ y. spelled_element_at unused u ≡ y → map_read (put_last gs) y ≡ Found (hs, still) r → Put unused gs hs u still r) [
       | Found e q ↦ λ f g. (let i = value_is (put_last gs e) (hs, still) q r g in
           record { tag = e.0; found = f ∙ ap (λ (b : Bool). Found (e.0, b) q) (ap (λ (x : List ℤ × Bool). x.1) i) ∙ ap (λ (l : List ℕ). Found (e.0, still) l) (rest_is (put_last gs e) (hs, still) q r g); tags = sym (ap (λ (x : List ℤ × Bool). x.0) i) })
       | Stuck q ↦ λ f g. absurd cc
@@ -179,27 +179,27 @@ is_put unused gs hs u still r h =
     rest_is x y q r g = cc
 
 -- the first tag
-pub puts_first : (hs : List ℤ) (t : List ℕ) (still : Bool) (r : List ℕ) → map_read (put_last []) (element_at true t) ≡ Found (hs, still) r → map_read (λ more. hs ++ more) (more_tags_at (length r) still r) ≡ tags_at t
+pub puts_first : (hs : List ℤ) (t : List ℕ) (still : Bool) (r : List ℕ) → map_read (put_last []) (spelled_element_at true t) ≡ Found (hs, still) r → map_read (λ more. hs ++ more) (more_spelled_tags_at (length r) still r) ≡ spelled_tags_at t
 puts_first hs t still r h =
     let p = is_put true [] hs t still r h in
-    ap (λ (l : List ℤ). map_read (λ more. l ++ more) (more_tags_at (length r) still r)) p.tags
-    ∙ sym (ap (λ (y : Read (ℤ × Bool)). go_on y (λ e rest. map_read (λ gs. e.0 ∷ gs) (more_tags_at (length rest) e.1 rest))) p.found)
+    ap (λ (l : List ℤ). map_read (λ more. l ++ more) (more_spelled_tags_at (length r) still r)) p.tags
+    ∙ sym (ap (λ (y : Read (ℤ × Bool)). go_on y (λ e rest. map_read (λ gs. e.0 ∷ gs) (more_spelled_tags_at (length rest) e.1 rest))) p.found)
 
 -- one more behind a comma
-pub puts_more : (unused : Bool) (gs hs : List ℤ) (t u : List ℕ) (still : Bool) (r : List ℕ) (whole : Read (List ℤ)) → begins_with 44 t ≡ true → u ≡ cond (begins_with 44 t) (drop 1 t) t → map_read (put_last gs) (element_at unused u) ≡ Found (hs, still) r
-    → map_read (λ more. gs ++ more) (more_tags_at (length t) unused t) ≡ whole → map_read (λ more. hs ++ more) (more_tags_at (length r) still r) ≡ whole
+pub puts_more : (unused : Bool) (gs hs : List ℤ) (t u : List ℕ) (still : Bool) (r : List ℕ) (whole : Read (List ℤ)) → begins_with 44 t ≡ true → u ≡ cond (begins_with 44 t) (drop 1 t) t → map_read (put_last gs) (spelled_element_at unused u) ≡ Found (hs, still) r
+    → map_read (λ more. gs ++ more) (more_spelled_tags_at (length t) unused t) ≡ whole → map_read (λ more. hs ++ more) (more_spelled_tags_at (length r) still r) ≡ whole
 puts_more unused gs hs [] u still r whole b e h so_far = absurd cc
 puts_more unused gs hs (c ∷ t) u still r whole b e h so_far =
     let p = is_put unused gs hs u still r h in
     let is : u ≡ t = e ∙ ap (λ (i : Bool). cond i t (c ∷ t)) b in
-    let found : element_at unused t ≡ Found (p.tag, still) r = ap (element_at unused) (sym is) ∙ p.found in
-    let one : more_tags_at (length (c ∷ t)) unused (c ∷ t) ≡ map_read (λ hs. p.tag ∷ hs) (more_tags_at (length t) still r) =
-    ap (λ (i : Bool). cond i (go_on (element_at unused t) (λ e rest. map_read (λ gs. e.0 ∷ gs) (more_tags_at (length t) e.1 rest))) (Found [] (c ∷ t))) b
-    ∙ ap (λ (y : Read (ℤ × Bool)). go_on y (λ e rest. map_read (λ gs. e.0 ∷ gs) (more_tags_at (length t) e.1 rest))) found in
-    ap (λ (l : List ℤ). map_read (λ more. l ++ more) (more_tags_at (length r) still r)) p.tags
-    ∙ sym (add_front gs p.tag (more_tags_at (length r) still r))
+    let found : spelled_element_at unused t ≡ Found (p.tag, still) r = ap (spelled_element_at unused) (sym is) ∙ p.found in
+    let one : more_spelled_tags_at (length (c ∷ t)) unused (c ∷ t) ≡ map_read (λ hs. p.tag ∷ hs) (more_spelled_tags_at (length t) still r) =
+    ap (λ (i : Bool). cond i (go_on (spelled_element_at unused t) (λ e rest. map_read (λ gs. e.0 ∷ gs) (more_spelled_tags_at (length t) e.1 rest))) (Found [] (c ∷ t))) b
+    ∙ ap (λ (y : Read (ℤ × Bool)). go_on y (λ e rest. map_read (λ gs. e.0 ∷ gs) (more_spelled_tags_at (length t) e.1 rest))) found in
+    ap (λ (l : List ℤ). map_read (λ more. l ++ more) (more_spelled_tags_at (length r) still r)) p.tags
+    ∙ sym (add_front gs p.tag (more_spelled_tags_at (length r) still r))
     ∙ ap (λ (y : Read (List ℤ)). map_read (λ more. gs ++ more) (map_read (λ hs. p.tag ∷ hs) y)) (more_enough (length r) (length t) still r (omega arith) (element_shortens unused t (p.tag, still) r found))
     ∙ ap (map_read (λ more. gs ++ more)) (sym one) ∙ so_far
 
-pub puts_shorter : (unused : Bool) (gs hs : List ℤ) (u : List ℕ) (still : Bool) (r : List ℕ) → map_read (put_last gs) (element_at unused u) ≡ Found (hs, still) r → length r ≤ length u
+pub puts_shorter : (unused : Bool) (gs hs : List ℤ) (u : List ℕ) (still : Bool) (r : List ℕ) → map_read (put_last gs) (spelled_element_at unused u) ≡ Found (hs, still) r → length r ≤ length u
 puts_shorter unused gs hs u still r h = let p = is_put unused gs hs u still r h in element_shortens unused u (p.tag, still) r p.found

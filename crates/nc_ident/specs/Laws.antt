@@ -12,7 +12,8 @@ WrittenTagsSpell = (sent : Option ℕ) (tags : List ℤ) → 0 < length tags →
 
 -- what is written of a cursor spells it, whatever the sending place
 abbrev pub WrittenIdSpells : Type 0
-WrittenIdSpells = (sent : Option ℕ) (cursor : CursorAt) → IsTime cursor.time → 0 < length cursor.tags → AreTags cursor.tags → SpellsId (cursor_text sent cursor) cursor
+WrittenIdSpells = (sent : Option ℕ) (cursor : CursorAt) → IsTime cursor.time → 0 < length cursor.tags → AreTags cursor.tags
+    → SpellsId (cursor_text sent cursor) cursor
 
 -- no text spells two lists of tags
 abbrev pub SpellsOneList : Type 0

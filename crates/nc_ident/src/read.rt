@@ -9,7 +9,7 @@ ghost use Rattle.nc_grammar.specs.Gives.{Gives, GivesBy};
 ghost use Rattle.nc_grammar.specs.Reading.{map_read};
 ghost use Rattle.nc_grammar.specs.Whole.{IsWhole};
 ghost use Rattle.nc_ident.specs.Spelling.{SpellsTags, SpellsId, AreTagsOf, IsIdOf};
-ghost use Rattle.nc_ident.specs.Reader.{tag_at, element_at, put_last, tags_at, id_at};
+ghost use Rattle.nc_ident.specs.Reader.{spelled_tag_at, spelled_element_at, put_last, spelled_tags_at, spelled_id_at};
 ghost use Rattle.nc_ident.specs.declared.refusal.IdRefusal.TheVariants.{TagCount};
 ghost use Rattle.nc_ident.specs.Refusal.{IsRefusedId, AreRefusedTags};
 
@@ -23,7 +23,7 @@ const GREATEST_TAG: u64 = 65_535;
 
 /// Reads a tag: `-`, or 1 to 5 digits.
 fn tag(reader: &mut Reader<'_>) -> Result<i32, Fault>
-    ensures read { Gives reader.new result (tag_at reader.old) }
+    ensures read { Gives reader.new result (spelled_tag_at reader.old) }
     ensures within { IfOk result (λ tag. IsTag tag) }
     ensures fault { IfErr result (λ fault. fault ≡ Stuck) }
 {
@@ -35,7 +35,7 @@ fn tag(reader: &mut Reader<'_>) -> Result<i32, Fault>
 
 /// Reads a tag, in brackets where it has them and they are still left.
 fn element(reader: &mut Reader<'_>, brackets_left: &mut bool) -> Result<i32, Fault>
-    ensures read { GivesBy (λ tag. (tag, brackets_left.new)) reader.new result (element_at brackets_left.old reader.old) }
+    ensures read { GivesBy (λ tag. (tag, brackets_left.new)) reader.new result (spelled_element_at brackets_left.old reader.old) }
     ensures within { IfOk result (λ tag. IsTag tag) }
     ensures fault { IfErr result (λ fault. fault ≡ Stuck) }
 {
@@ -54,7 +54,7 @@ fn push_tag(
     tags: &mut List<i32>,
     brackets_left: &mut bool,
 ) -> Result<(), Fault>
-    ensures read { GivesBy (λ _. (tags.new, brackets_left.new)) reader.new result (map_read (put_last tags.old) (element_at brackets_left.old reader.old)) }
+    ensures read { GivesBy (λ _. (tags.new, brackets_left.new)) reader.new result (map_read (put_last tags.old) (spelled_element_at brackets_left.old reader.old)) }
     ensures within { OnOk result (AreTags tags.old → (0 < length tags.new) × AreTags tags.new) }
 {
     let tag = element(reader, brackets_left)?;
@@ -64,7 +64,7 @@ fn push_tag(
 
 /// Reads tags joined by commas.
 fn tags(alloc: Global, reader: &mut Reader<'_>) -> Result<List<i32>, Fault>
-    ensures read { Gives reader.new result (tags_at reader.old) }
+    ensures read { Gives reader.new result (spelled_tags_at reader.old) }
     ensures within { IfOk result (λ tags. (0 < length tags) × AreTags tags) }
 {
     let mut tags = List::new(alloc);
@@ -78,7 +78,7 @@ fn tags(alloc: Global, reader: &mut Reader<'_>) -> Result<List<i32>, Fault>
 
 /// Reads a time, a colon and tags.
 fn id(alloc: Global, reader: &mut Reader<'_>) -> Result<Cursor, Fault>
-    ensures { Gives reader.new result (id_at reader.old) }
+    ensures { Gives reader.new result (spelled_id_at reader.old) }
 {
     let time = reader.digits(12, GREATEST_TIME)?;
     reader.label(b":")?;

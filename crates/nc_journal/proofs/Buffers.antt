@@ -1,12 +1,12 @@
 -- The messages of a channel and its buffer, as the history goes on.
+use Rattle.std.specs.Prelude.{bytes_eq}
 use Rattle.std.proofs.Common.{◌≡◌, ◌⊎◌, inl, inr, ℕ, Bool, true, false, cond, not, ◌||◌, List, [], ◌∷◌, ◌++◌, refl, sym, ◌∙◌, subst, ap, append_assoc, Some, None, find, filter, true≢false}
 use Rattle.std.specs.List.{AllByRecursion}
 use Rattle.std.proofs.lemmas.Bool.{cond_both}
 use Rattle.std.proofs.lemmas.List.{append-nil}
 use Rattle.std.proofs.lemmas.List.Elements.{filter-append}
 use Rattle.nc_types.specs.Id.{Id, IsPast, is_past}
-use Rattle.nc_types.specs.Channel.{name_eq}
-use Rattle.nc_journal.specs.Message.{Message, message_of, published, lets_go, is_gone, buffer, first_past, IsRising}
+use Rattle.nc_journal.specs.Message.{Message, stored_message, published, lets_go, is_gone, buffer, first_past, IsRising}
 use Rattle.nc_journal.specs.Sending.{HasId}
 use Rattle.nc_journal.specs.declared.event.Event.{Event}
 use Rattle.nc_journal.specs.declared.event.Event.TheVariants.{Stored}
@@ -15,9 +15,9 @@ use Rattle.nc_journal.proofs.Ids.{not_past_of_test}
 
 -- an event adds what it stores
 pub published-push : (c : List ℕ) (e : Event) (h : List Event) → published c (e ∷ h) ≡ published c h ++ published c (e ∷ [])
-published-push c (Stored w d id slot len exp kept members from r ct body) h = by_name (name_eq d c)
+published-push c (Stored w d id slot len exp kept members from r ct body) h = by_name (bytes_eq d c)
   where
-    by_name : (same : Bool) → cond same (published c h ++ message_of id slot exp ct body ∷ []) (published c h) ≡ published c h ++ cond same (message_of id slot exp ct body ∷ []) []
+    by_name : (same : Bool) → cond same (published c h ++ stored_message id slot exp ct body ∷ []) (published c h) ≡ published c h ++ cond same (stored_message id slot exp ct body ∷ []) []
     by_name true = refl
     by_name false = sym (append-nil (published c h))
 published-push c e h = sym (append-nil (published c h))

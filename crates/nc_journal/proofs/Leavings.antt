@@ -1,18 +1,18 @@
 -- Messages that leave their buffers, one after the other.
+use Rattle.std.specs.Prelude.{bytes_eq}
 use Rattle.std.proofs.Common.{◌≡◌, inl, inr, ℕ, zero, suc, Bool, true, false, cond, not, ◌||◌, ◌&&◌, List, [], ◌∷◌, ◌++◌, map, filter, take, drop, refl, ◌∙◌, ap, arith, Option}
 use Rattle.std.specs.List.{AllByRecursion}
 use Rattle.std.proofs.lemmas.Bool.{cond_both}
 use Rattle.std.proofs.lemmas.Int.{ints}
 use Rattle.std.proofs.lemmas.List.Elements.{filter-append}
 use Rattle.nc_types.specs.Id.{Id, IsPast, id_eq}
-use Rattle.nc_types.specs.Channel.{name_eq}
 use Rattle.nc_journal.specs.declared.event.Event.{Event}
 use Rattle.nc_journal.specs.declared.event.Event.TheVariants.{Stored, Left, Removed}
 use Rattle.nc_journal.specs.declared.word.LeftCause.{LeftCause}
 use Rattle.nc_journal.specs.declared.word.LeftCause.TheVariants.{Length, Expired, Deleted, Spent}
 use Rattle.nc_journal.specs.declared.word.RemovedCause.TheVariants.{Deleted as ByDeletion}
 use Rattle.nc_journal.specs.History.{onto}
-use Rattle.nc_journal.specs.Message.{Message, message_of, published, is_gone, buffer, IsRising}
+use Rattle.nc_journal.specs.Message.{Message, stored_message, published, is_gone, buffer, IsRising}
 use Rattle.nc_journal.specs.Sending.{HasId}
 use Rattle.nc_journal.specs.Leaving.{HasMessage, StandsFirst, MakesRoom, GoesNext, LeavesBy, LeftAt}
 use Rattle.nc_journal.specs.Refused.{UnremovedIsRefused}
@@ -53,8 +53,8 @@ filter-or p q (x ∷ xs) = by_tests (p x) (q x) refl (filter-or p q xs)
     by_tests false false is rest = rw is (ap (λ l. x ∷ l) rest)
 
 -- a message leaves the buffer of its channel, and no other
-pub buffer-left : (c : List ℕ) (w : ℕ) (d : List ℕ) (id : Id) (slot : ℕ) (cause : LeftCause) (h : List Event) → buffer c (Left w d id slot cause ∷ h) ≡ cond (name_eq d c) (without id (buffer c h)) (buffer c h)
-buffer-left c w d id slot cause h = by_name (name_eq d c)
+pub buffer-left : (c : List ℕ) (w : ℕ) (d : List ℕ) (id : Id) (slot : ℕ) (cause : LeftCause) (h : List Event) → buffer c (Left w d id slot cause ∷ h) ≡ cond (bytes_eq d c) (without id (buffer c h)) (buffer c h)
+buffer-left c w d id slot cause h = by_name (bytes_eq d c)
   where
     by_name : (same : Bool) → filter (λ m. not ((same && id_eq id m.id) || is_gone c m.id h)) (published c h) ≡ cond same (without id (buffer c h)) (buffer c h)
     by_name true = filter-or (λ m. id_eq id m.id) (λ m. is_gone c m.id h) (published c h)
@@ -62,14 +62,14 @@ buffer-left c w d id slot cause h = by_name (name_eq d c)
 
 -- a message of an id that isn't gone is stored at the end of its channel's buffer
 pub buffer-stored : (c : List ℕ) (w : ℕ) (d : List ℕ) (id : Id) (slot len exp members from r : ℕ) (ct : Option (List ℕ)) (body : List ℕ) (h : List Event) → is_gone c id h ≡ false
-    → buffer c (Stored w d id slot len exp true members from r ct body ∷ h) ≡ cond (name_eq d c) (buffer c h ++ message_of id slot exp ct body ∷ []) (buffer c h)
-buffer-stored c w d id slot len exp members from r ct body h here = by_name (name_eq d c)
+    → buffer c (Stored w d id slot len exp true members from r ct body ∷ h) ≡ cond (bytes_eq d c) (buffer c h ++ stored_message id slot exp ct body ∷ []) (buffer c h)
+buffer-stored c w d id slot len exp members from r ct body h here = by_name (bytes_eq d c)
   where
     stays : Message → Bool
     stays m = not (is_gone c m.id h)
 
-    by_name : (same : Bool) → filter stays (cond same (published c h ++ message_of id slot exp ct body ∷ []) (published c h)) ≡ cond same (buffer c h ++ message_of id slot exp ct body ∷ []) (buffer c h)
-    by_name true = filter-append stays (published c h) (message_of id slot exp ct body ∷ []) ∙ ap (λ b. buffer c h ++ cond (not b) (message_of id slot exp ct body ∷ []) []) here
+    by_name : (same : Bool) → filter stays (cond same (published c h ++ stored_message id slot exp ct body ∷ []) (published c h)) ≡ cond same (buffer c h ++ stored_message id slot exp ct body ∷ []) (buffer c h)
+    by_name true = filter-append stays (published c h) (stored_message id slot exp ct body ∷ []) ∙ ap (λ b. buffer c h ++ cond (not b) (stored_message id slot exp ct body ∷ []) []) here
     by_name false = refl
 
 -- some messages of channel c leave, by one cause
@@ -81,13 +81,13 @@ pub lefts-same : {X : Type 0} (f : List Event → X) (w : ℕ) (c : List ℕ) (c
 lefts-same f w c cause [] h same = refl
 lefts-same f w c cause (m ∷ ms) h same = lefts-same f w c cause ms (Left w c m.id m.slot cause ∷ h) same ∙ same m.id m.slot h
 
-pub buffer-lefts : (d : List ℕ) (w : ℕ) (c : List ℕ) (cause : LeftCause) (ms : List Message) (h : List Event) → name_eq c d ≡ true → buffer d (lefts w c cause ms h) ≡ without_all ms (buffer d h)
+pub buffer-lefts : (d : List ℕ) (w : ℕ) (c : List ℕ) (cause : LeftCause) (ms : List Message) (h : List Event) → bytes_eq c d ≡ true → buffer d (lefts w c cause ms h) ≡ without_all ms (buffer d h)
 buffer-lefts d w c cause [] h same = refl
 buffer-lefts d w c cause (m ∷ ms) h same =
     buffer-lefts d w c cause ms (Left w c m.id m.slot cause ∷ h) same
     ∙ ap (without_all ms) (buffer-left d w c m.id m.slot cause h ∙ ap (λ b. cond b (without m.id (buffer d h)) (buffer d h)) same)
 
-pub buffer-lefts-other : (d : List ℕ) (w : ℕ) (c : List ℕ) (cause : LeftCause) (ms : List Message) (h : List Event) → name_eq c d ≡ false → buffer d (lefts w c cause ms h) ≡ buffer d h
+pub buffer-lefts-other : (d : List ℕ) (w : ℕ) (c : List ℕ) (cause : LeftCause) (ms : List Message) (h : List Event) → bytes_eq c d ≡ false → buffer d (lefts w c cause ms h) ≡ buffer d h
 buffer-lefts-other d w c cause ms h other = lefts-same (buffer d) w c cause ms h (λ id slot l. buffer-left d w c id slot cause l ∙ ap (λ b. cond b (without id (buffer d l)) (buffer d l)) other)
 
 -- messages whose ids are all past an id stay where it leaves

@@ -1,14 +1,14 @@
 -- The ids of a channel rise strictly, through every removal.
 use Rattle.std.proofs.Common.{◌≡◌, ℕ, Bool, true, false, cond, max, List, [], ◌∷◌, ◌++◌, refl, sym, ◌∙◌, subst, ap, Option, Some, None}
-use Rattle.std.specs.Prelude.{unwrap_or}
+use Rattle.std.specs.Prelude.{unwrap_or, bytes_eq}
 use Rattle.std.specs.List.{AllByRecursion}
 use Rattle.std.specs.Cmp.Lexicographic.{same_text}
 use Rattle.std.proofs.lemmas.Bool.{cond_both, eq-eqb}
 use Rattle.nc_types.specs.Id.{Id, IsPast, no_id}
-use Rattle.nc_types.specs.Channel.{name_eq, owner_of}
+use Rattle.nc_types.specs.Channel.{owner_of}
 use Rattle.nc_journal.specs.History.{own, is_by}
 use Rattle.nc_journal.specs.Stamp.{clock_of, floor_of, spent_of, made_last, last_of, greater_id, stamp, IsStamp, StampedAt, IsStamped}
-use Rattle.nc_journal.specs.Message.{Message, message_of, published, IsRising, RisingLaw}
+use Rattle.nc_journal.specs.Message.{Message, stored_message, published, IsRising, RisingLaw}
 use Rattle.nc_journal.specs.declared.event.Event.{Event}
 use Rattle.nc_journal.specs.declared.event.Event.TheVariants.{Stored, Looked, Joined, Removed}
 use Rattle.nc_journal.proofs.Cuts.{all-weaker, all-append}
@@ -16,8 +16,8 @@ use Rattle.nc_journal.proofs.Ids.{IsAtMost, at_most-refl, at_most-trans, at_most
 
 -- what an event of a channel's owner keeps of the last id: it stores past it, and removes at it
 abbrev KeepsLast : List ℕ → Id → Event → Type 0
-KeepsLast c last (Stored w d id slot len exp kept members from r ct body) = name_eq d c ≡ true → IsPast id last
-KeepsLast c last (Removed w d id cause) = name_eq d c ≡ true → id ≡ last
+KeepsLast c last (Stored w d id slot len exp kept members from r ct body) = bytes_eq d c ≡ true → IsPast id last
+KeepsLast c last (Removed w d id cause) = bytes_eq d c ≡ true → id ≡ last
 KeepsLast c last _ = Unit {0}
 
 -- a channel that is made has the last id that it had before
@@ -36,10 +36,10 @@ removed_rises (Some made) spent id false last = at_most-refl made
 
 -- in a local history the last id doesn't fall
 local_rises : (c : List ℕ) (e : Event) (l : List Event) → KeepsLast c (last_of c l) e → IsAtMost (last_of c l) (last_of c (e ∷ l))
-local_rises c (Stored w d id slot len exp kept members from r ct body) l k = stored_rises (made_last c l) (spent_of l) id (name_eq d c) k
-local_rises c (Looked w q from number d after floor found) l k = subst (λ (x : Id). IsAtMost (last_of c l) x) (sym (made_same (name_eq d c) (made_last c l) (spent_of l))) (at_most-refl (last_of c l))
-local_rises c (Joined w d from k') l k = subst (λ (x : Id). IsAtMost (last_of c l) x) (sym (made_same (name_eq d c) (made_last c l) (spent_of l))) (at_most-refl (last_of c l))
-local_rises c (Removed w d id cause) l k = removed_rises (made_last c l) (spent_of l) id (name_eq d c) k
+local_rises c (Stored w d id slot len exp kept members from r ct body) l k = stored_rises (made_last c l) (spent_of l) id (bytes_eq d c) k
+local_rises c (Looked w q from number d after floor found) l k = subst (λ (x : Id). IsAtMost (last_of c l) x) (sym (made_same (bytes_eq d c) (made_last c l) (spent_of l))) (at_most-refl (last_of c l))
+local_rises c (Joined w d from k') l k = subst (λ (x : Id). IsAtMost (last_of c l) x) (sym (made_same (bytes_eq d c) (made_last c l) (spent_of l))) (at_most-refl (last_of c l))
+local_rises c (Removed w d id cause) l k = removed_rises (made_last c l) (spent_of l) id (bytes_eq d c) k
 local_rises c e l k = at_most-refl (last_of c l)
 
 stamp_past : (c : List ℕ) (l : List Event) → IsPast (stamp c l) (last_of c l)
@@ -81,14 +81,14 @@ stays_up_to workers c e h ms s below = all-weaker (IsUpToLast workers c h) (IsUp
 pub published-below : (workers : ℕ) (c : List ℕ) (h : List Event) → IsStamped workers h → AllByRecursion (IsUpToLast workers c h) (published c h)
 published-below workers c [] s = tt
 published-below workers c (Stored w d id slot len exp kept members from r ct body ∷ h) s =
-    all_with (IsUpToLast workers c (Stored w d id slot len exp kept members from r ct body ∷ h)) (name_eq d c) (published c h) (message_of id slot exp ct body)
+    all_with (IsUpToLast workers c (Stored w d id slot len exp kept members from r ct body ∷ h)) (bytes_eq d c) (published c h) (stored_message id slot exp ct body)
     (stays_up_to workers c (Stored w d id slot len exp kept members from r ct body) h (published c h) s.1 (published-below workers c h s.0))
     (λ same. subst (IsAtMost id) (sym (is_last same)) (at_most-refl id))
   where
-    is_owner : name_eq d c ≡ true → owner_of workers c ≡ w
+    is_owner : bytes_eq d c ≡ true → owner_of workers c ≡ w
     is_owner same = ap (owner_of workers) (sym (same_text d c (sym same))) ∙ sym s.1.owner
 
-    is_last : name_eq d c ≡ true → last_of c (own (owner_of workers c) (Stored w d id slot len exp kept members from r ct body ∷ h)) ≡ id
+    is_last : bytes_eq d c ≡ true → last_of c (own (owner_of workers c) (Stored w d id slot len exp kept members from r ct body ∷ h)) ≡ id
     is_last same =
         ap (last_of c) (own_yes (owner_of workers c) (Stored w d id slot len exp kept members from r ct body) h (eq-eqb (owner_of workers c) w (is_owner same)))
         ∙ ap (λ b. unwrap_or (cond b (Some id) (made_last c (own (owner_of workers c) h))) (spent_of (own (owner_of workers c) h))) same
@@ -105,8 +105,8 @@ rising_push (x ∷ ms) m rises past = (all-append (λ later. IsPast later.id x.i
 pub ids-rise : RisingLaw
 ids-rise workers [] stamped c = tt
 ids-rise workers (Stored w d id slot len exp kept members from r ct body ∷ h) stamped c =
-    cond_both (name_eq d c) _ _ IsRising
-    (λ same. rising_push (published c h) (message_of id slot exp ct body) (ids-rise workers h stamped.0 c)
+    cond_both (bytes_eq d c) _ _ IsRising
+    (λ same. rising_push (published c h) (stored_message id slot exp ct body) (ids-rise workers h stamped.0 c)
     (subst (λ (n : List ℕ). AllByRecursion (λ m. IsPast id m.id) (published n h)) (same_text d c (sym same)) (stored-past workers w d id h stamped.0 stamped.1)))
     (λ _. ids-rise workers h stamped.0 c)
 ids-rise workers (e ∷ h) stamped c = ids-rise workers h stamped.0 c
@@ -120,6 +120,6 @@ last-low workers c (e ∷ h) stamped = at_most-trans no_id (last_of c (own (owne
 pub all-past-none : (workers : ℕ) (c : List ℕ) (h : List Event) → IsStamped workers h → AllByRecursion (λ m. IsPast m.id no_id) (published c h)
 all-past-none workers c [] stamped = tt
 all-past-none workers c (Stored w d id slot len exp kept members from r ct body ∷ h) stamped =
-    all_with (λ m. IsPast m.id no_id) (name_eq d c) (published c h) (message_of id slot exp ct body) (all-past-none workers c h stamped.0)
+    all_with (λ m. IsPast m.id no_id) (bytes_eq d c) (published c h) (stored_message id slot exp ct body) (all-past-none workers c h stamped.0)
     (λ _. past_of_at_most no_id (last_of d (own (owner_of workers d) h)) id (last-low workers d h stamped.0) (stored-past-last workers w d id h stamped.1))
 all-past-none workers c (e ∷ h) stamped = all-past-none workers c h stamped.0

@@ -2,7 +2,7 @@
 use Rattle.std.proofs.Common.{◌≡◌, ℕ, List, [], ◌∷◌, ◌++◌, sym, ◌∙◌, append_assoc}
 use Rattle.std.proofs.lemmas.List.{append-nil}
 use Rattle.nc_journal.specs.declared.event.Event.{Event}
-use Rattle.nc_journal.specs.Line.{line}
+use Rattle.nc_journal.specs.EventLine.{line}
 use Rattle.nc_journal.specs.Text.{text_of, lines_text, TextGrows}
 
 -- the line of one event more, and then the others

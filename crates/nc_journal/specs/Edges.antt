@@ -1,7 +1,7 @@
 -- Edges: where an owner told a worker how far a channel has come, for a subscriber that begins behind the newest message.
-use Rattle.std.specs.Prelude.{◌≡◌, ℕ, ◌<◌, ◌≤◌, if◌then◌else◌, ◌&&◌, ◌==◌, List, [], ◌∷◌, ◌++◌}
+use Rattle.std.specs.Prelude.{◌≡◌, ℕ, ◌<◌, ◌≤◌, if◌then◌else◌, ◌&&◌, ◌==◌, List, [], ◌∷◌, ◌++◌, bytes_eq}
 use Rattle.nc_types.specs.Id.{Id}
-use Rattle.nc_types.specs.Channel.{owner_of, name_eq}
+use Rattle.nc_types.specs.Channel.{owner_of}
 use Rattle.nc_journal.specs.declared.event.Event.{Event}
 use Rattle.nc_journal.specs.declared.event.Event.TheVariants.{Edged}
 
@@ -22,15 +22,18 @@ edge_told number floor last = record { number = number; floor = floor; last = la
 -- what the edges of subscriber k of a worker at a channel told, the newest one first
 abbrev pub edges_of : (w k : ℕ) → List ℕ → List Event → List EdgeTold
 edges_of w k c [] = []
-edges_of w k c (Edged v q from number n d floor last ∷ h) = if (from == w) && ((n == k) && name_eq d c) then edge_told number floor last ∷ edges_of w k c h else edges_of w k c h
+edges_of w k c (Edged v q from number n d floor last ∷ h) = if (from == w) && ((n == k) && bytes_eq d c) then edge_told number floor last ∷ edges_of w k c h else edges_of w k c h
 edges_of w k c (e ∷ h) = edges_of w k c h
 
 -- one edge whose floor isn't below a time, or one whose floor is below it and a second one whose floor isn't; and no other
 pub data Edges (workers w k : ℕ) (c : List ℕ) (time : ℕ) (last : Id) (older : List Event) : Type 0 where
-  One : (since : List Event) (edge : Event) (seen : List Event) (floor : ℕ) → older ≡ since ++ edge ∷ seen → IsEdge (owner_of workers c) w k c floor last edge → time ≤ floor
+  One : (since : List Event) (edge : Event) (seen : List Event) (floor : ℕ) → older ≡ since ++ edge ∷ seen
+      → IsEdge (owner_of workers c) w k c floor last edge → time ≤ floor
       → edges_of w k c since ≡ [] → edges_of w k c seen ≡ [] → Edges workers w k c time last older
-  Two : (since : List Event) (second : Event) (between : List Event) (edge : Event) (seen : List Event) (floor floor_later : ℕ) (last_later : Id) → older ≡ since ++ second ∷ (between ++ edge ∷ seen)
-      → IsEdge (owner_of workers c) w k c floor last edge → IsEdge (owner_of workers c) w k c floor_later last_later second → floor < time → time ≤ floor_later
+  Two : (since : List Event) (second : Event) (between : List Event) (edge : Event) (seen : List Event) (floor floor_later : ℕ) (last_later : Id)
+      → older ≡ since ++ second ∷ (between ++ edge ∷ seen)
+      → IsEdge (owner_of workers c) w k c floor last edge → IsEdge (owner_of workers c) w k c floor_later last_later second → floor < time
+      → time ≤ floor_later
       → edges_of w k c since ≡ [] → edges_of w k c between ≡ [] → edges_of w k c seen ≡ [] → Edges workers w k c time last older
 
 -- what stands before the first edge, and what stands behind the last one

@@ -1,7 +1,7 @@
 -- The leaving rule: which message leaves its buffer, when, and why.
-use Rattle.std.specs.Prelude.{◌≡◌, ◌⊎◌, ℕ, ◌+◌, ◌-◌, ◌<◌, ◌≤◌, Bool, true, false, if◌then◌else◌, not, List, [], ◌∷◌, ◌++◌, length, ◌==◌, ◌&&◌, nat_le, Option}
+use Rattle.std.specs.Prelude.{◌≡◌, ◌⊎◌, ℕ, ◌+◌, ◌-◌, ◌<◌, ◌≤◌, Bool, true, false, if◌then◌else◌, List, [], ◌∷◌, ◌++◌, length, ◌==◌, Option}
 use Rattle.std.specs.List.{AllByRecursion}
-use Rattle.nc_types.specs.Id.{Id}
+use Rattle.nc_types.specs.Id.{Id, has_come}
 use Rattle.nc_types.specs.Channel.{owner_of}
 use Rattle.nc_journal.specs.History.{own, Along, AtEachCut}
 use Rattle.nc_journal.specs.Stamp.{clock_of}
@@ -13,8 +13,8 @@ use Rattle.nc_journal.specs.declared.word.LeftCause.TheVariants.{Length, Expired
 use Rattle.nc_journal.specs.declared.word.RemovedCause.TheVariants.{Deleted as ByDeletion}
 
 -- a message expires at a moment that it names; 0 is never
-abbrev pub is_expired : ℕ → Message → Bool
-is_expired now m = not (m.expires == 0) && nat_le m.expires now
+abbrev pub has_expired : ℕ → Message → Bool
+has_expired now m = has_come m.expires now
 
 -- one of some messages has this id and slot, and is so
 abbrev pub HasMessage : (Message → Type 0) → List Message → Id → ℕ → Type 0
@@ -76,7 +76,7 @@ most_grants = 4294967295
 
 -- why a message leaves: it has expired; room is made and it is the first; it was granted as often as it may be; or it is the first and its channel is deleted
 abbrev pub LeavesBy : LeftCause → ℕ → List ℕ → Id → ℕ → List Event → List Event → Type 0
-LeavesBy Expired w c id slot newer older = HasMessage (λ m. is_expired (clock_of (own w older)) m ≡ true) (buffer c older) id slot
+LeavesBy Expired w c id slot newer older = HasMessage (λ m. has_expired (clock_of (own w older)) m ≡ true) (buffer c older) id slot
 LeavesBy Length w c id slot newer older = StandsFirst (buffer c older) id slot × MakesRoom w c newer older
 LeavesBy Spent w c id slot newer older = HasMessage (λ m. grants_since m.slot (own w older) ≡ most_grants) (buffer c older) id slot
 LeavesBy Deleted w c id slot newer older = StandsFirst (buffer c older) id slot × GoesNext w c newer
@@ -92,7 +92,7 @@ LeftAt workers newer _ older = Unit {0}
 
 -- no message of a channel's buffer has expired
 abbrev pub NoneExpired : ℕ → List ℕ → List Event → Type 0
-NoneExpired w c h = AllByRecursion (λ m. is_expired (clock_of (own w h)) m ≡ false) (buffer c h)
+NoneExpired w c h = AllByRecursion (λ m. has_expired (clock_of (own w h)) m ≡ false) (buffer c h)
 
 -- what an event on a channel finds there: nothing has expired; and after a stored event the buffer has at most its length
 abbrev pub FindsAt : List Event → Event → Type 0

@@ -7,7 +7,7 @@ pub mod Newest
 pub mod Sending
 pub mod Lawful
 pub mod Word
-pub mod Line
+pub mod EventLine
 pub mod Text
 pub mod Leaving
 pub mod Holding

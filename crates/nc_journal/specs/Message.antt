@@ -1,8 +1,7 @@
 -- The messages of a channel: which were stored, which are gone, which are buffered.
-use Rattle.std.specs.Prelude.{ℕ, Bool, false, not, List, [], ◌∷◌, ◌++◌, if◌then◌else◌, ◌&&◌, ◌||◌, filter, Option, find}
+use Rattle.std.specs.Prelude.{ℕ, Bool, false, not, List, [], ◌∷◌, ◌++◌, if◌then◌else◌, ◌&&◌, ◌||◌, filter, Option, find, bytes_eq}
 use Rattle.std.specs.List.{AllByRecursion}
 use Rattle.nc_types.specs.Id.{Id, IsPast, is_past, id_eq}
-use Rattle.nc_types.specs.Channel.{name_eq}
 use Rattle.nc_journal.specs.Stamp.{IsStamped}
 use Rattle.nc_journal.specs.declared.event.Event.{Event}
 use Rattle.nc_journal.specs.declared.event.Event.TheVariants.{Stored, Left}
@@ -15,19 +14,19 @@ pub record Message : Type 0 where
   pub ct : Option (List ℕ)
   pub body : List ℕ
 
-abbrev pub message_of : Id → ℕ → ℕ → Option (List ℕ) → List ℕ → Message
-message_of id slot expires ct body = record { id = id; slot = slot; expires = expires; ct = ct; body = body }
+abbrev pub stored_message : Id → ℕ → ℕ → Option (List ℕ) → List ℕ → Message
+stored_message id slot expires ct body = record { id = id; slot = slot; expires = expires; ct = ct; body = body }
 
 -- the messages of a channel that were stored, in the order in which they were
 abbrev pub published : List ℕ → List Event → List Message
 published c [] = []
-published c (Stored w d id slot len exp kept members from r ct body ∷ h) = if name_eq d c then published c h ++ message_of id slot exp ct body ∷ [] else published c h
+published c (Stored w d id slot len exp kept members from r ct body ∷ h) = if bytes_eq d c then published c h ++ stored_message id slot exp ct body ∷ [] else published c h
 published c (e ∷ h) = published c h
 
 -- an event after which a message is gone: it was never kept, or it leaves
 abbrev pub lets_go : List ℕ → Id → Event → Bool
-lets_go c id (Stored w d m slot len exp kept members from r ct body) = not kept && (name_eq d c && id_eq m id)
-lets_go c id (Left w d m slot cause) = name_eq d c && id_eq m id
+lets_go c id (Stored w d m slot len exp kept members from r ct body) = not kept && (bytes_eq d c && id_eq m id)
+lets_go c id (Left w d m slot cause) = bytes_eq d c && id_eq m id
 lets_go c id _ = false
 
 abbrev pub is_gone : List ℕ → Id → List Event → Bool

@@ -25,7 +25,8 @@ pub record StartsByEdges (workers w k : ℕ) (list : List (List ℕ)) (cur : Cur
   pub lasts : List Id
   pub lasts_each : length lasts ≡ length list
   pub cursor : cur ≡ cursor_behind lasts
-  pub edges : (j : ℕ) (c : List ℕ) (last : Id) → slice_get list j ≡ Some c → slice_get lasts j ≡ Some last → Edges workers w k c cur.time last older
+  pub edges : (j : ℕ) (c : List ℕ) (last : Id) → slice_get list j ≡ Some c → slice_get lasts j ≡ Some last
+      → Edges workers w k c cur.time last older
 
 -- no message of a channel that was stored before the first edge is past the cursor there, and each that is stored behind the last one is,
 -- also after the start

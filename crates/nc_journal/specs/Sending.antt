@@ -45,7 +45,8 @@ pub record IsSentFrom (workers w i : ℕ) (c : List ℕ) (id : Id) (cur : Cursor
   pub past : IsPast id (cursor_id old i)
   pub cursor : cur ≡ moved old i id
   pub looks_each : length looks ≡ length list
-  pub rests : (j : ℕ) (d : List ℕ) (q : ℕ) → slice_get list j ≡ Some d → slice_get looks j ≡ Some q → RestsOnLook workers w q c id d (cursor_id old j) (cursor_id cur j) newer older
+  pub rests : (j : ℕ) (d : List ℕ) (q : ℕ) → slice_get list j ≡ Some d → slice_get looks j ≡ Some q
+      → RestsOnLook workers w q c id d (cursor_id old j) (cursor_id cur j) newer older
 
 abbrev pub SentFrom : (workers w i : ℕ) → List ℕ → Id → CursorAt → List ℕ → List Event → List Event → Stage → Type 0
 SentFrom workers w i c id cur looks newer older (Standing list once old) = IsSentFrom workers w i c id cur looks list old newer older
@@ -76,7 +77,8 @@ IsStartedLawfully workers h = AtEachCut (StartedAt workers) h
 
 -- one that stands lacks no buffered message of its channels
 abbrev pub LacksNothing : List Event → Stage → Type 0
-LacksNothing h (Standing list once cur) = (j : ℕ) (c : List ℕ) → slice_get list j ≡ Some c → AllByRecursion (λ m. IsPast m.id (cursor_id cur j) → ⊥) (buffer c h)
+LacksNothing h (Standing list once cur) = (j : ℕ) (c : List ℕ) → slice_get list j ≡ Some c
+    → AllByRecursion (λ m. IsPast m.id (cursor_id cur j) → ⊥) (buffer c h)
 LacksNothing h _ = Unit {0}
 
 abbrev pub QuietAt : List Event → Event → Type 0

@@ -20,7 +20,8 @@ stage_after e = Unused
 
 -- a slot is in the stage in which the last event that names it left it, and unused where none names it
 pub record IsByLastNaming (s : ℕ) : Type 0 where
-  pub last : (newer : List Event) (e : Event) (older : List Event) → AllByRecursion (λ x. names_slot s x ≡ false) newer → names_slot s e ≡ true → slot_stage s (newer ++ e ∷ older) ≡ stage_after e
+  pub last : (newer : List Event) (e : Event) (older : List Event) → AllByRecursion (λ x. names_slot s x ≡ false) newer → names_slot s e ≡ true
+      → slot_stage s (newer ++ e ∷ older) ≡ stage_after e
   pub none : (h : List Event) → AllByRecursion (λ x. names_slot s x ≡ false) h → slot_stage s h ≡ Unused
 
 -- under the slot rule no slot's hold is released that wasn't granted: with the holds that there are, the releases are the grants

@@ -1,8 +1,8 @@
 -- The stamp rule: which id a message gets, by what its owner did before.
 -- The definitions up to `stamp` read the local history of one owner.
-use Rattle.std.specs.Prelude.{◌≡◌, ℕ, pos, ◌+◌, ◌+ℤ◌, ◌<◌, max, not, List, [], ◌∷◌, if◌then◌else◌, ◌==◌, nat_lt, int_lt, Option, Some, None, unwrap_or}
+use Rattle.std.specs.Prelude.{◌≡◌, ℕ, pos, ◌+◌, ◌+ℤ◌, ◌<◌, max, not, List, [], ◌∷◌, if◌then◌else◌, ◌==◌, nat_lt, int_lt, Option, Some, None, unwrap_or, bytes_eq}
 use Rattle.nc_types.specs.Id.{Id, IsTime, is_past, no_id}
-use Rattle.nc_types.specs.Channel.{name_eq, owner_of}
+use Rattle.nc_types.specs.Channel.{owner_of}
 use Rattle.nc_journal.specs.History.{own, Along}
 use Rattle.nc_journal.specs.declared.event.Event.{Event}
 use Rattle.nc_journal.specs.declared.event.Event.TheVariants.{Clock, Raised, Stored, Looked, Joined, Removed}
@@ -32,10 +32,10 @@ spent_of (e ∷ h) = spent_of h
 -- the last id of a channel that exists: of its last message, or the spent id when it was made
 abbrev pub made_last : List ℕ → List Event → Option Id
 made_last c [] = None
-made_last c (Stored w d id slot len exp kept members from r ct body ∷ h) = if name_eq d c then Some id else made_last c h
-made_last c (Looked w q from number d after floor found ∷ h) = if name_eq d c then Some (unwrap_or (made_last c h) (spent_of h)) else made_last c h
-made_last c (Joined w d from k ∷ h) = if name_eq d c then Some (unwrap_or (made_last c h) (spent_of h)) else made_last c h
-made_last c (Removed w d last cause ∷ h) = if name_eq d c then None else made_last c h
+made_last c (Stored w d id slot len exp kept members from r ct body ∷ h) = if bytes_eq d c then Some id else made_last c h
+made_last c (Looked w q from number d after floor found ∷ h) = if bytes_eq d c then Some (unwrap_or (made_last c h) (spent_of h)) else made_last c h
+made_last c (Joined w d from k ∷ h) = if bytes_eq d c then Some (unwrap_or (made_last c h) (spent_of h)) else made_last c h
+made_last c (Removed w d last cause ∷ h) = if bytes_eq d c then None else made_last c h
 made_last c (e ∷ h) = made_last c h
 
 -- the last id of a channel, which is the spent id where it doesn't exist
@@ -73,19 +73,6 @@ StampedAt workers h _ = Unit {0}
 abbrev pub IsStamped : ℕ → List Event → Type 0
 IsStamped workers h = Along (StampedAt workers) h
 
--- what a publish orders: how many messages its channel is to keep and how long, the type and the body
-pub record Order : Type 0 where
-  pub len : ℕ
-  pub timeout : ℕ
-  pub ct : Option (List ℕ)
-  pub body : List ℕ
-
 -- when a message expires that is stored now; 0 is never
 abbrev pub expiry : ℕ → ℕ → ℕ
 expiry now timeout = if timeout == 0 then 0 else now + timeout
-
--- what a stored event keeps of the order, where the clock reads `now`: it is kept unless the length is 0
-abbrev pub StoresOrder : Order → ℕ → Event → Type 0
-StoresOrder order now (Stored w c id slot len exp kept members from r ct body) =
-    (len ≡ order.len) × (exp ≡ expiry now order.timeout) × (kept ≡ not (order.len == 0)) × (ct ≡ order.ct) × (body ≡ order.body)
-StoresOrder order now _ = ⊥

@@ -2,7 +2,7 @@
 use Rattle.std.specs.Prelude.{◌≡◌, ℕ, List, [], ◌∷◌, ◌++◌, take}
 use Rattle.std.specs.List.{flat_map}
 use Rattle.nc_journal.specs.declared.event.Event.{Event}
-use Rattle.nc_journal.specs.Line.{line}
+use Rattle.nc_journal.specs.EventLine.{line}
 use Rattle.nc_journal.specs.History.{onto}
 
 -- a line and its end

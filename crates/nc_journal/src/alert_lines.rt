@@ -1,6 +1,6 @@
 //! The alert of a `made` line: its kind and its fields.
 ghost use Rattle.std.specs.Prelude.{◌≡◌, IfOk};
-ghost use Rattle.nc_journal.specs.Line.{alert_text};
+ghost use Rattle.nc_journal.specs.EventLine.{alert_text};
 
 use crate::alert::AlertLine;
 use nc_journal_field::{

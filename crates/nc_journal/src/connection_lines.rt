@@ -1,6 +1,6 @@
 //! The lines of what happens to a connection and its requests.
 ghost use Rattle.std.specs.Prelude.{◌≡◌, IfOk};
-ghost use Rattle.nc_journal.specs.Line.{line};
+ghost use Rattle.nc_journal.specs.EventLine.{line};
 
 use crate::event::Event;
 use crate::word::{Act, ShutCause};

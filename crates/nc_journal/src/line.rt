@@ -1,6 +1,6 @@
 //! The line of an event.
 ghost use Rattle.std.specs.Prelude.{◌≡◌, ◌++◌, ◌∷◌, [], IfOk, OnOk, OnErr};
-ghost use Rattle.nc_journal.specs.Line.{line};
+ghost use Rattle.nc_journal.specs.EventLine.{line};
 ghost use Rattle.nc_journal.specs.Text.{ended_line, lines_text, HasFirstLines};
 
 use crate::connection_lines::{

@@ -1,6 +1,6 @@
 //! The lines of what a worker does to the channels and slots that it owns.
 ghost use Rattle.std.specs.Prelude.{◌≡◌, IfOk};
-ghost use Rattle.nc_journal.specs.Line.{line, stored_front};
+ghost use Rattle.nc_journal.specs.EventLine.{line, stored_front};
 
 use crate::event::Event;
 use crate::word::{LeftCause, RemovedCause};

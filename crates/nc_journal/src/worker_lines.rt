@@ -1,6 +1,6 @@
 //! The lines of clocks, of the holds that a worker gives back, of alerts, and of the end of a step.
 ghost use Rattle.std.specs.Prelude.{◌≡◌, IfOk};
-ghost use Rattle.nc_journal.specs.Line.{line};
+ghost use Rattle.nc_journal.specs.EventLine.{line};
 
 use crate::alert::AlertLine;
 use crate::alert_lines::alert_text;

@@ -1,15 +1,15 @@
 -- What each step of reading a list of channels leaves to be read.
 use Rattle.std.proofs.Common.{◌≡◌, ◌≢◌, ℕ, zero, suc, ◌-◌, ◌<◌, ◌≤◌, Bool, true, false, cond, eqb, drop, List, [], ◌∷◌, ◌++◌, length, refl, sym, ap, subst, ◌∙◌, append_assoc, arith, length-append}
-use Rattle.std.specs.Prelude.{◌||◌, take}
+use Rattle.std.specs.Prelude.{◌||◌, take, bytes_eq}
 use Rattle.std.specs.List.{AllByRecursion}
 use Rattle.std.specs.Cmp.Lexicographic.{other_text}
-use Rattle.nc_types.specs.Channel.{name_eq, AreDistinct}
+use Rattle.nc_types.specs.Channel.{AreDistinct}
 use Rattle.nc_types.specs.Text.{quoted_byte, quoted}
 use Rattle.nc_grammar.specs.Reading.{Read, Found, Stuck, go_on, map_read, with_first}
 use Rattle.nc_grammar.specs.Quoted.{AreBytes, quoted_at}
 use Rattle.nc_grammar.specs.Maybe.{begins_with, add_first}
 use Rattle.nc_grammar.specs.Whole.{IsLine}
-use Rattle.nc_grammar.proofs.Exact.{Tells}
+use Rattle.nc_grammar.proofs.Exact.{IsRightReading}
 use Rattle.nc_grammar.proofs.Forms.{text_form}
 use Rattle.std.specs.List.{flat_map}
 use Rattle.nc_journal_list.specs.NameReader.{is_among, if_new, new_name_at, more_names_at, list_at}
@@ -22,7 +22,7 @@ pub record Closing (t r : List ℕ) : Type 0 where
 
 pub closing : (t name r : List ℕ) → quoted_at t ≡ Found name r → Closing t r
 closing t name r e =
-    let m : Tells (IsLine AreBytes quoted) t (Found name r) = subst (λ (y : Read (List ℕ)). Tells (IsLine AreBytes quoted) t y) e (text_form.tells t) in
+    let m : IsRightReading (IsLine AreBytes quoted) t (Found name r) = subst (λ (y : Read (List ℕ)). IsRightReading (IsLine AreBytes quoted) t y) e (text_form.tells t) in
     let cut : t ≡ (34 ∷ flat_map quoted_byte name) ++ (34 ∷ r) = m.parts ∙ ap (λ (l : List ℕ). l ++ r) m.text.text ∙ append_assoc (34 ∷ flat_map quoted_byte name) (34 ∷ []) r in
     let n : length t - length r - 1 ≡ length (34 ∷ flat_map quoted_byte name) = omega (arith, ap length cut, length-append (34 ∷ flat_map quoted_byte name) (34 ∷ r)) in
     record {
@@ -37,7 +37,7 @@ closing t name r e =
 pub distinct_last : (names : List (List ℕ)) (name : List ℕ) → is_among name names ≡ false → AreDistinct names → AreDistinct (names ++ name ∷ [])
 distinct_last [] name e h = (tt, tt)
 distinct_last (other ∷ names) name e h =
-    let k = neither (name_eq name other) (is_among name names) e in
+    let k = neither (bytes_eq name other) (is_among name names) e in
     (all_last names (other_text name other (sym k.0)) h.0, distinct_last names name k.1 h.1)
   where
     neither : (a b : Bool) → (a || b) ≡ false → (a ≡ false) × (b ≡ false)

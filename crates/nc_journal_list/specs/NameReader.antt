@@ -1,14 +1,13 @@
 -- Reading a list of channels, in which no name stands twice.
-use Rattle.std.specs.Prelude.{ℕ, zero, suc, Bool, List, [], ◌∷◌, ◌++◌, length, ◌==◌, if◌then◌else◌}
+use Rattle.std.specs.Prelude.{ℕ, zero, suc, Bool, List, [], ◌∷◌, ◌++◌, length, ◌==◌, if◌then◌else◌, bytes_eq}
 use Rattle.std.specs.List.{list_any}
-use Rattle.nc_types.specs.Channel.{name_eq}
 use Rattle.nc_grammar.specs.Reading.{Read, Found, Stuck, go_on, with_first}
 use Rattle.nc_grammar.specs.Quoted.{quoted_at}
 use Rattle.nc_grammar.specs.Maybe.{add_first}
 
 -- a name stands among some
 abbrev pub is_among : List ℕ → List (List ℕ) → Bool
-is_among name names = list_any (name_eq name) names
+is_among name names = list_any (bytes_eq name) names
 
 -- a name that stands among those before is stuck in front of its closing sign, since with more bytes it would be another
 abbrev pub if_new : List (List ℕ) → Read (List ℕ) → Read (List ℕ)

@@ -8,7 +8,7 @@ use Rattle.nc_grammar.specs.Gives.{Gives}
 use Rattle.nc_grammar.specs.Whole.{IsLine, IsWhole, ended}
 use Rattle.nc_grammar.proofs.Whole.{whole_is}
 use Rattle.nc_journal_read.specs.Fit.{EventFits}
-use Rattle.nc_journal.specs.Line.{line}
+use Rattle.nc_journal.specs.EventLine.{line}
 use Rattle.nc_journal_read.specs.EventTable.{event_at}
 use Rattle.nc_journal_read.specs.BadLine.{IsBadLine}
 use Rattle.nc_journal.specs.declared.event.Event.{Event}

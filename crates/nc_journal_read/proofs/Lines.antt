@@ -14,7 +14,7 @@ use Rattle.nc_grammar.proofs.Forms.{text_form}
 use Rattle.nc_journal_field.specs.Field.{list_text, numbers_text}
 use Rattle.nc_types.specs.Written.{id_text, cursor_text}
 use Rattle.nc_journal.specs.Word.{act_word, mode_word, left_word, removed_word, ended_word, shut_word, kind_word}
-use Rattle.nc_journal.specs.Line.{line, alert_text}
+use Rattle.nc_journal.specs.EventLine.{line, alert_text}
 use Rattle.nc_journal_read.specs.Fit.{IsList, AlertFits, EventFits}
 use Rattle.nc_journal_read.specs.PlaceReader.{sending_text}
 use Rattle.nc_journal_read.specs.Shape.{number, truth, text, id, cursor, start, list, looks, subs, optional_number, optional_text, optional_id, optional_info, optional_full, optional_list, kit, value_at}

@@ -1,19 +1,19 @@
 -- Reading a list of channels is right.
 use Rattle.std.proofs.Common.{◌≡◌, ◌≢◌, ℕ, zero, suc, ◌+◌, ◌<◌, ◌≤◌, Bool, true, false, cond, eqb, List, [], ◌∷◌, ◌++◌, length, replicate, refl, sym, ap, subst, ◌∙◌, append_assoc, arith, length-append}
-use Rattle.std.specs.Prelude.{◌||◌}
+use Rattle.std.specs.Prelude.{◌||◌, bytes_eq}
 use Rattle.std.specs.List.{flat_map, AllByRecursion}
 use Rattle.std.specs.Cmp.Lexicographic.{same_text, other_text}
 use Rattle.std.proofs.lemmas.Bool.{eqb-true, eqb-false, both_ways}
 use Rattle.std.proofs.lemmas.Grind.{flat_map-append}
 use Rattle.std.proofs.lemmas.List.{append-nil, length-replicate}
-use Rattle.nc_types.specs.Channel.{name_eq, AreDistinct}
+use Rattle.nc_types.specs.Channel.{AreDistinct}
 use Rattle.nc_types.specs.Text.{quoted_byte, quoted}
 use Rattle.nc_grammar.specs.Reading.{Read, Found, Stuck, go_on, with_first}
 use Rattle.nc_grammar.specs.Quoted.{AreBytes, quoted_at}
 use Rattle.nc_grammar.specs.Maybe.{add_first}
 use Rattle.nc_grammar.specs.Whole.{IsLine}
 use Rattle.nc_grammar.proofs.Split.{Split, longer, shorter, same, split, head_is, tail_is, not_nil}
-use Rattle.nc_grammar.proofs.Exact.{Blocked, IsFound, IsStuck, Tells, IsSet, IsExact, IsExact-same, Named, IsSet-named, Tells-named}
+use Rattle.nc_grammar.proofs.Exact.{Blocked, IsFound, IsStuck, IsRightReading, IsSet, IsExact, IsExact-same, Named, IsSet-named, IsRightReading-named}
 use Rattle.nc_grammar.proofs.Seq.{Both, IsSeq, both_set, both_tells, either}
 use Rattle.nc_grammar.proofs.Maybe.{NoDash}
 use Rattle.nc_grammar.proofs.More.{IsMore, more_set, or_comma}
@@ -39,7 +39,7 @@ total (name ∷ names) = length name + total names
 among_length : (name : List ℕ) (names : List (List ℕ)) → is_among name names ≡ true → length name ≤ total names
 among_length name [] e = absurd cc
 among_length name (other ∷ names) e =
-    (elim (name_eq name other) as (λ b. name_eq name other ≡ b → (b || is_among name names) ≡ true → length name ≤ length other + total names) [
+    (elim (bytes_eq name other) as (λ b. bytes_eq name other ≡ b → (b || is_among name names) ≡ true → length name ≤ length other + total names) [
       | true ↦ λ g h. omega (arith, ap length (same_text name other (sym g)))
       | false ↦ λ g h. omega (arith, among_length name names h)
     ]) refl e
@@ -105,9 +105,9 @@ closed : (a b u s : List ℕ) → Quote a u → Quote b (u ++ s) → a ≡ b
 closed a b u [] m n = text_form.set.unique a b u m (subst (Quote b) (append-nil u) n)
 closed a b u (c ∷ s) m n = absurd (both_ways (nothing c) refl (text_form.set.stay a b u c s m n))
 
-new_found : (names : List (List ℕ)) (t name r : List ℕ) → IsFound Quote t name r → Tells (IsNew names) t (if_new names (Found name r))
+new_found : (names : List (List ℕ)) (t name r : List ℕ) → IsFound Quote t name r → IsRightReading (IsNew names) t (if_new names (Found name r))
 new_found names t name r f =
-    (elim (is_among name names) as (λ b. is_among name names ≡ b → Tells (IsNew names) t (cond b (Stuck (34 ∷ r)) (Found name r))) [
+    (elim (is_among name names) as (λ b. is_among name names ≡ b → IsRightReading (IsNew names) t (cond b (Stuck (34 ∷ r)) (Found name r))) [
       | true ↦ λ e. repeated e
       | false ↦ λ e. record { front = f.front; text = record { text = f.text; new = e }; parts = f.parts; blocked = narrow names f.front r f.blocked }
     ]) refl
@@ -150,11 +150,11 @@ new_stuck names t r m = by_rest m.begun.rest refl
           none = λ b k. m.none b k.text;
         }
 
-new_tells : (names : List (List ℕ)) (t : List ℕ) → Tells (IsNew names) t (new_name_at names t)
+new_tells : (names : List (List ℕ)) (t : List ℕ) → IsRightReading (IsNew names) t (new_name_at names t)
 new_tells names t =
-    (elim (quoted_at t) as (λ y. quoted_at t ≡ y → Tells (IsNew names) t (if_new names y)) [
-      | Found name r ↦ λ e. new_found names t name r (subst (λ (y : Read (List ℕ)). Tells Quote t y) e (text_form.tells t))
-      | Stuck r ↦ λ e. new_stuck names t r (subst (λ (y : Read (List ℕ)). Tells Quote t y) e (text_form.tells t))
+    (elim (quoted_at t) as (λ y. quoted_at t ≡ y → IsRightReading (IsNew names) t (if_new names y)) [
+      | Found name r ↦ λ e. new_found names t name r (subst (λ (y : Read (List ℕ)). IsRightReading Quote t y) e (text_form.tells t))
+      | Stuck r ↦ λ e. new_stuck names t r (subst (λ (y : Read (List ℕ)). IsRightReading Quote t y) e (text_form.tells t))
     ]) refl
 
 new_set : (names : List (List ℕ)) → IsSet (IsNew names) nothing
@@ -217,7 +217,7 @@ comma_none names p h (a ∷ xs) m = h (a, xs) (record { left = m.0; right = m.1;
 comma_text : (names : List (List ℕ)) (y : List ℕ × List (List ℕ)) (u : List ℕ) → Pair names y u → IsMoreNew names (y.0 ∷ y.1) (44 ∷ u)
 comma_text names y u m = (m.left, m.right, m.first, m.second, ap (λ (l : List ℕ). 44 ∷ l) m.parts)
 
-comma_tells : (names : List (List ℕ)) (t : List ℕ) (x : Read (List ℕ × List (List ℕ))) → Tells (Pair names) t x → Tells (IsMoreNew names) (44 ∷ t) (add_first x)
+comma_tells : (names : List (List ℕ)) (t : List ℕ) (x : Read (List ℕ × List (List ℕ))) → IsRightReading (Pair names) t x → IsRightReading (IsMoreNew names) (44 ∷ t) (add_first x)
 comma_tells names t (Found y r) m = record { front = 44 ∷ m.front; text = comma_text names y m.front m.text; parts = ap (λ (l : List ℕ). 44 ∷ l) m.parts; blocked = comma_blocked names m.front r m.blocked }
 comma_tells names t (Stuck r) m =
     record {
@@ -228,13 +228,13 @@ comma_tells names t (Stuck r) m =
       none = comma_none names m.front m.none;
     }
 
-more_tells_new : (n : ℕ) (names : List (List ℕ)) (t : List ℕ) → length t ≤ n → Tells (IsMoreNew names) t (more_names_at n names t)
+more_tells_new : (n : ℕ) (names : List (List ℕ)) (t : List ℕ) → length t ≤ n → IsRightReading (IsMoreNew names) t (more_names_at n names t)
 more_tells_new zero names [] le = record { front = []; text = refl; parts = refl; blocked = tt }
 more_tells_new zero names (c ∷ r) le = absurd (omega (arith, le))
 more_tells_new (suc n) names [] le = record { front = []; text = refl; parts = refl; blocked = tt }
 more_tells_new (suc n) names (c ∷ r) le =
-    (elim (eqb c 44) as (λ b. eqb c 44 ≡ b → Tells (IsMoreNew names) (c ∷ r) (cond b (add_first (go_on (new_name_at names r) (λ name rest. with_first name (more_names_at n (names ++ name ∷ []) rest)))) (Found [] (c ∷ r)))) [
-      | true ↦ λ g. subst (λ (k : ℕ). Tells (IsMoreNew names) (k ∷ r) (add_first (go_on (new_name_at names r) (λ name rest. with_first name (more_names_at n (names ++ name ∷ []) rest))))) (sym (eqb-true c 44 g))
+    (elim (eqb c 44) as (λ b. eqb c 44 ≡ b → IsRightReading (IsMoreNew names) (c ∷ r) (cond b (add_first (go_on (new_name_at names r) (λ name rest. with_first name (more_names_at n (names ++ name ∷ []) rest)))) (Found [] (c ∷ r)))) [
+      | true ↦ λ g. subst (λ (k : ℕ). IsRightReading (IsMoreNew names) (k ∷ r) (add_first (go_on (new_name_at names r) (λ name rest. with_first name (more_names_at n (names ++ name ∷ []) rest))))) (sym (eqb-true c 44 g))
           (comma_tells names r (go_on (new_name_at names r) (λ name rest. with_first name (more_names_at n (names ++ name ∷ []) rest)))
           (both_tells (IsNew names) (Behind names) nothing (or_comma nothing) (new_seq names) (λ name. more_names_at n (names ++ name ∷ [])) r (new_name_at names r)
           (λ name rest h. more_tells_new n (names ++ name ∷ []) rest (omega (arith, le, ap length h.parts, length-append h.front rest))) (new_tells names r)))
@@ -259,7 +259,7 @@ names_exact : IsExact IsNames (either nothing (or_comma nothing)) list_at
 names_exact =
     record {
       set = IsSet-named (λ (p : List ℕ × List (List ℕ)). p.0 ∷ p.1) Whole list_stays (both_set Quote (λ name. IsMoreNew (name ∷ [])) nothing (or_comma nothing) whole_seq);
-      tells = λ t. Tells-named (λ (p : List ℕ × List (List ℕ)). p.0 ∷ p.1) Whole t (go_on (quoted_at t) (λ name rest. with_first name (more_names_at (length rest) (name ∷ []) rest)))
+      tells = λ t. IsRightReading-named (λ (p : List ℕ × List (List ℕ)). p.0 ∷ p.1) Whole t (go_on (quoted_at t) (λ name rest. with_first name (more_names_at (length rest) (name ∷ []) rest)))
           (both_tells Quote (λ name. IsMoreNew (name ∷ [])) nothing (or_comma nothing) whole_seq (λ name rest. more_names_at (length rest) (name ∷ []) rest) t (quoted_at t)
           (λ name rest h. more_tells_new (length rest) (name ∷ []) rest (omega arith)) (text_form.tells t));
     }
@@ -270,13 +270,13 @@ abbrev AreNew : List (List ℕ) → List (List ℕ) → Type 0
 AreNew names [] = Unit {0}
 AreNew names (x ∷ xs) = (is_among x names ≡ false) × AreNew (names ++ x ∷ []) xs
 
-among_last : (y : List ℕ) (names : List (List ℕ)) (x : List ℕ) → is_among y (names ++ x ∷ []) ≡ (is_among y names || name_eq y x)
-among_last y [] x = or_false (name_eq y x)
+among_last : (y : List ℕ) (names : List (List ℕ)) (x : List ℕ) → is_among y (names ++ x ∷ []) ≡ (is_among y names || bytes_eq y x)
+among_last y [] x = or_false (bytes_eq y x)
   where
     or_false : (b : Bool) → (b || false) ≡ b
     or_false true = refl
     or_false false = refl
-among_last y (other ∷ names) x = ap (λ (b : Bool). name_eq y other || b) (among_last y names x) ∙ or_assoc (name_eq y other) (is_among y names) (name_eq y x)
+among_last y (other ∷ names) x = ap (λ (b : Bool). bytes_eq y other || b) (among_last y names x) ∙ or_assoc (bytes_eq y other) (is_among y names) (bytes_eq y x)
   where
     or_assoc : (a b c : Bool) → (a || (b || c)) ≡ ((a || b) || c)
     or_assoc true b c = refl
@@ -290,9 +290,9 @@ both_false : (a b : Bool) → a ≡ false → b ≡ false → (a || b) ≡ false
 both_false true b e f = absurd cc
 both_false false b e f = f
 
-not_same : (y x : List ℕ) → y ≢ x → name_eq y x ≡ false
+not_same : (y x : List ℕ) → y ≢ x → bytes_eq y x ≡ false
 not_same y x h =
-    (elim (name_eq y x) as (λ b. name_eq y x ≡ b → b ≡ false) [
+    (elim (bytes_eq y x) as (λ b. bytes_eq y x ≡ b → b ≡ false) [
       | true ↦ λ g. absurd (h (same_text y x (sym g)))
       | false ↦ λ g. refl
     ]) refl
@@ -303,13 +303,13 @@ Others names xs = AllByRecursion (λ y. is_among y names ≡ false) xs
 apart_there : (names : List (List ℕ)) (x : List ℕ) (xs : List (List ℕ)) → Others (names ++ x ∷ []) xs → Others names xs × AllByRecursion (λ y. y ≢ x) xs
 apart_there names x [] h = (tt, tt)
 apart_there names x (y ∷ xs) h =
-    let k = neither (is_among y names) (name_eq y x) (sym (among_last y names x) ∙ h.0) in
+    let k = neither (is_among y names) (bytes_eq y x) (sym (among_last y names x) ∙ h.0) in
     let more = apart_there names x xs h.1 in
     ((k.0, more.0), (other_text y x (sym k.1), more.1))
 
 apart_back : (names : List (List ℕ)) (x : List ℕ) (xs : List (List ℕ)) → Others names xs → AllByRecursion (λ y. y ≢ x) xs → Others (names ++ x ∷ []) xs
 apart_back names x [] h k = tt
-apart_back names x (y ∷ xs) h k = (among_last y names x ∙ both_false (is_among y names) (name_eq y x) h.0 (not_same y x k.0), apart_back names x xs h.1 k.1)
+apart_back names x (y ∷ xs) h k = (among_last y names x ∙ both_false (is_among y names) (bytes_eq y x) h.0 (not_same y x k.0), apart_back names x xs h.1 k.1)
 
 new_there : (names xs : List (List ℕ)) → AreNew names xs → Others names xs × AreDistinct xs
 new_there names [] h = (tt, tt)

@@ -5,10 +5,11 @@ use Rattle.std.specs.List.{flat_map}
 use Rattle.std.specs.Fmt.{decimal}
 use Rattle.nc_grammar.specs.Reading.{Read, Found, Stuck, go_on, with_first}
 use Rattle.nc_grammar.specs.Number.{is_digit, goes_on, more_digits_at, number_at}
-use Rattle.nc_grammar.specs.Maybe.{option_at, joined_at, more_at, add_first, OrNone, or_dash, joined_text, SomeFit}
+use Rattle.nc_grammar.specs.Maybe.{option_at, joined_at, more_at, add_first, OrNone}
+use Rattle.nc_grammar.proofs.Texts.{or_dash, SomeFit}
 use Rattle.nc_grammar.specs.Whole.{IsLine}
 use Rattle.nc_grammar.proofs.Split.{head_is, not_nil}
-use Rattle.nc_grammar.proofs.Exact.{Blocked, IsFound, IsStuck, Tells, IsExact, IsExact-same, IsExact-named, Named}
+use Rattle.nc_grammar.proofs.Exact.{Blocked, IsFound, IsStuck, IsRightReading, IsExact, IsExact-same, IsExact-named, Named}
 use Rattle.nc_grammar.proofs.Seq.{either}
 use Rattle.nc_grammar.proofs.More.{or_comma, Shortens, shortens}
 use Rattle.nc_grammar.proofs.Forms.{maybe_form, joined_form}
@@ -17,7 +18,7 @@ use Rattle.nc_journal_field.specs.Field.{numbers_text, subs_text}
 use Rattle.nc_types.specs.Written.{comma, joined}
 use Rattle.nc_journal_read.specs.Fit.{IsU64, AreNumbers}
 use Rattle.nc_journal_read.specs.ValueReader.{u64_at, from_first, numbers_at, or_empty, subs_at}
-use Rattle.nc_journal_read.proofs.Values.{reworded, joined_is, IsNumberFront, front_some, front_first, digit_first, no_dash, u64_form, u64_first}
+use Rattle.nc_journal_read.proofs.Values.{IsNumberFront, front_some, front_first, digit_first, no_dash, u64_form, u64_first}
 
 abbrev Numbers : List ℕ → List ℕ → Type 0
 Numbers = IsLine AreNumbers numbers_text
@@ -32,7 +33,7 @@ abbrev numbers_stay : ℕ → Bool
 numbers_stay = either is_digit (or_comma is_digit)
 
 some_form : IsExact (IsLine (SomeFit IsU64) (joined decimal)) (either is_digit (or_comma is_digit)) (joined_at u64_at)
-some_form = reworded (SomeFit IsU64) (SomeFit IsU64) (joined_text decimal) (joined decimal) (either is_digit (or_comma is_digit)) (joined_at u64_at) (λ xs h. h) (λ xs h. h) (λ xs h. joined_is decimal xs) (joined_form IsU64 decimal is_digit u64_at refl u64_form)
+some_form = joined_form IsU64 decimal is_digit u64_at refl u64_form
 
 pub u64_shortens : Shortens u64_at
 u64_shortens = shortens (IsLine IsU64 decimal) is_digit u64_at u64_form
@@ -105,7 +106,7 @@ not_at_front t n r f p q e g b = by_front f.front refl
         let one : Number n (c ∷ w) = subst (Number n) h f.text in
         at_front (n ∷ []) w (record { fits = (one.fits, tt); text = one.text ∙ sym (nil (decimal n)) })
 
-found_tells : (t : List ℕ) (n : ℕ) (r : List ℕ) → IsFound Number t n r → (x : Read (List ℕ)) → Tells SomeNumbers t x → Tells Numbers t x
+found_tells : (t : List ℕ) (n : ℕ) (r : List ℕ) → IsFound Number t n r → (x : Read (List ℕ)) → IsRightReading SomeNumbers t x → IsRightReading Numbers t x
 found_tells t n r f (Found xs q) m = record { front = m.front; text = to_numbers xs m.front m.text; parts = m.parts; blocked = widen m.front q m.blocked }
 found_tells t n r f (Stuck q) m =
     record {
@@ -141,15 +142,15 @@ stuck_blocked (c ∷ r) m = λ xs s h. by_list xs s h
             let is : c ≡ b = head_is c b s (d ++ flat_map (comma decimal) ns) (h.text ∙ ap (λ (l : List ℕ). l ++ flat_map (comma decimal) ns) e) in
             at_front n d (record { fits = h.fits.0; text = ap (λ (k : ℕ). k ∷ d) is ∙ sym e })
 
-stuck_tells : (t r : List ℕ) → t ≡ r → Tells Number t (Stuck r) → Tells Numbers t (Found [] r)
+stuck_tells : (t r : List ℕ) → t ≡ r → IsRightReading Number t (Stuck r) → IsRightReading Numbers t (Found [] r)
 stuck_tells t r e m = record { front = []; text = record { fits = tt; text = refl }; parts = e; blocked = stuck_blocked r (subst (λ (l : List ℕ). IsStuck Number l r) e m) }
 
-numbers_tells : (t : List ℕ) → Tells Numbers t (numbers_at t)
+numbers_tells : (t : List ℕ) → IsRightReading Numbers t (numbers_at t)
 numbers_tells t =
-    (elim (u64_at t) as (λ y. u64_at t ≡ y → Tells Numbers t (from_first y)) [
-      | Found n r ↦ λ e. found_tells t n r (subst (λ (y : Read ℕ). Tells Number t y) e (u64_form.tells t)) (from_first (Found n r))
-          (subst (λ (y : Read ℕ). Tells SomeNumbers t (add_first (go_on y (λ a rest. with_first a (more_at (length rest) u64_at rest))))) e (some_form.tells t))
-      | Stuck r ↦ λ e. stuck_tells t r (number_stuck 18446744073709551615 t r e) (subst (λ (y : Read ℕ). Tells Number t y) e (u64_form.tells t))
+    (elim (u64_at t) as (λ y. u64_at t ≡ y → IsRightReading Numbers t (from_first y)) [
+      | Found n r ↦ λ e. found_tells t n r (subst (λ (y : Read ℕ). IsRightReading Number t y) e (u64_form.tells t)) (from_first (Found n r))
+          (subst (λ (y : Read ℕ). IsRightReading SomeNumbers t (add_first (go_on y (λ a rest. with_first a (more_at (length rest) u64_at rest))))) e (some_form.tells t))
+      | Stuck r ↦ λ e. stuck_tells t r (number_stuck 18446744073709551615 t r e) (subst (λ (y : Read ℕ). IsRightReading Number t y) e (u64_form.tells t))
     ]) refl
 
 numbers_unique : (a b u : List ℕ) → Numbers a u → Numbers b u → a ≡ b

@@ -6,12 +6,13 @@ use Rattle.std.specs.Fmt.{decimal}
 use Rattle.std.proofs.lemmas.Bool.{eqb-true, eq-eqb}
 use Rattle.std.proofs.lemmas.Int.{ints}
 use Rattle.nc_types.specs.Id.{Id, IsTime, IsTag}
-use Rattle.nc_types.specs.Cursor.{CursorAt}
+use Rattle.nc_types.specs.Cursor.{CursorAt, as_cursor}
 use Rattle.nc_types.specs.Text.{quoted}
 use Rattle.nc_grammar.specs.Number.{is_digit}
 use Rattle.nc_grammar.specs.Label.{field_at}
 use Rattle.nc_grammar.specs.Quoted.{AreBytes, quoted_at}
-use Rattle.nc_grammar.specs.Maybe.{joined_at, two_at, SomeFit}
+use Rattle.nc_grammar.specs.Maybe.{joined_at, two_at}
+use Rattle.nc_grammar.proofs.Texts.{SomeFit}
 use Rattle.nc_grammar.specs.Whole.{IsLine}
 use Rattle.nc_grammar.proofs.Split.{head_is, not_nil}
 use Rattle.nc_grammar.proofs.Exact.{IsExact, IsExact-same, IsExact-named, Named}
@@ -24,7 +25,7 @@ use Rattle.nc_grammar.proofs.Two.{IsTwo, two_exact, IsEither, on_left, on_right,
 use Rattle.nc_grammar.proofs.Forms.{text_form, more_there, more_back, joined_back}
 use Rattle.nc_types.specs.Written.{comma, joined, tag_text, id_text, bracketed, tags_from, sent_tags, cursor_text}
 use Rattle.nc_journal_read.specs.Fit.{IsU64, IsId, IsCursor}
-use Rattle.nc_journal_read.specs.ValueReader.{u64_at, time_at, tag_at, id_at, cursor_of}
+use Rattle.nc_journal_read.specs.ValueReader.{u64_at, time_at, tag_at, written_id_at}
 use Rattle.nc_journal_read.specs.PlaceReader.{Sending, IsSending, sending_text, first_and_more, only, more_tags_at, bracketed_at, sent_tags_at, sent_cursor_at, sending_at}
 use Rattle.nc_journal_read.proofs.Values.{u64_form, time_form, tag_form, id_form, some_tags, tags_some}
 
@@ -91,7 +92,7 @@ sent_tags_exact zero =
 sent_tags_exact (suc i) = marked_exact (suc i)
 
 abbrev pub SentCursor : ℕ → CursorAt → List ℕ → Type 0
-SentCursor i = Named cursor_of (IsTwo (58 ∷ []) (IsLine IsTime decimal) (SentTags i))
+SentCursor i = Named as_cursor (IsTwo (58 ∷ []) (IsLine IsTime decimal) (SentTags i))
 
 sent_cursor_exact : (i : ℕ) → SomeExact (SentCursor i) (sent_cursor_at i)
 sent_cursor_exact i =
@@ -99,20 +100,20 @@ sent_cursor_exact i =
     record {
       stays = either is_digit (either nothing x.stays);
       blank = rw x.blank refl;
-      exact = IsExact-named cursor_of (IsTwo (58 ∷ []) (IsLine IsTime decimal) (SentTags i)) _ _ (two_exact 58 [] (IsLine IsTime decimal) (SentTags i) is_digit x.stays time_at (sent_tags_at i) refl time_form x.exact);
+      exact = IsExact-named as_cursor (IsTwo (58 ∷ []) (IsLine IsTime decimal) (SentTags i)) _ _ (two_exact 58 [] (IsLine IsTime decimal) (SentTags i) is_digit x.stays time_at (sent_tags_at i) refl time_form x.exact);
     }
 
 abbrev pub Behind : ℕ → List ℕ × (Id × CursorAt) → List ℕ → Type 0
 Behind i = IsLabelled (codes " c=") (IsTwo (codes " id=") (IsLine AreBytes quoted) (IsTwo (codes " cur=") (IsLine IsId id_text) (SentCursor i)))
 
-behind_exact : (i : ℕ) → SomeExact (Behind i) (field_at (codes " c=") (two_at (codes " id=") quoted_at (two_at (codes " cur=") id_at (sent_cursor_at i))))
+behind_exact : (i : ℕ) → SomeExact (Behind i) (field_at (codes " c=") (two_at (codes " id=") quoted_at (two_at (codes " cur=") written_id_at (sent_cursor_at i))))
 behind_exact i =
     let x = sent_cursor_exact i in
     record {
       stays = _;
       blank = rw x.blank refl;
-      exact = labelled_exact (codes " c=") _ _ _ (two_exact 32 (codes "id=") (IsLine AreBytes quoted) (IsTwo (codes " cur=") (IsLine IsId id_text) (SentCursor i)) _ _ quoted_at (two_at (codes " cur=") id_at (sent_cursor_at i)) refl text_form
-          (two_exact 32 (codes "cur=") (IsLine IsId id_text) (SentCursor i) _ x.stays id_at (sent_cursor_at i) refl id_form x.exact));
+      exact = labelled_exact (codes " c=") _ _ _ (two_exact 32 (codes "id=") (IsLine AreBytes quoted) (IsTwo (codes " cur=") (IsLine IsId id_text) (SentCursor i)) _ _ quoted_at (two_at (codes " cur=") written_id_at (sent_cursor_at i)) refl text_form
+          (two_exact 32 (codes "cur=") (IsLine IsId id_text) (SentCursor i) _ x.stays written_id_at (sent_cursor_at i) refl id_form x.exact));
     }
 
 abbrev pub IsPlace : ℕ × (List ℕ × (Id × CursorAt)) → List ℕ → Type 0
@@ -120,7 +121,7 @@ IsPlace = Both (IsLine IsU64 decimal) Behind
 
 pub place_exact : IsExact IsPlace (either is_digit but_blank) sending_at
 place_exact =
-    both_exact (IsLine IsU64 decimal) Behind is_digit but_blank u64_at (λ i. field_at (codes " c=") (two_at (codes " id=") quoted_at (two_at (codes " cur=") id_at (sent_cursor_at i))))
+    both_exact (IsLine IsU64 decimal) Behind is_digit but_blank u64_at (λ i. field_at (codes " c=") (two_at (codes " id=") quoted_at (two_at (codes " cur=") written_id_at (sent_cursor_at i))))
     u64_form (λ i u h. loosely (Behind i) _ (behind_exact i)) (λ i b c v h. subst (λ (k : ℕ). is_digit k ≡ false) (sym (head_is c 32 v (codes "c=" ++ h.rest) h.parts)) refl)
 
 -- ---- the same in the form "it fits, and this is its text"
@@ -290,7 +291,7 @@ place_there x u m =
     let b = a.second in
     let c = b.second in
     let tags = sent_there x.0 c.0.1 c.2.right c.2.second in
-    let is : x.1.1.1 ≡ cursor_of c.0 = c.1 in
+    let is : x.1.1.1 ≡ as_cursor c.0 = c.1 in
     let k = some_tags c.0.1 tags.fits.fit in
     let cur : IsCursor x.1.1.1 × (x.0 < length x.1.1.1.tags) = subst (λ (y : CursorAt). IsCursor y × (x.0 < length y.tags)) (sym is) (record { time = c.2.first.fits; some = k.0; tags = k.1 }, tags.fits.below) in
     let cur_text : b.right ≡ decimal x.1.1.1.time ++ (58 ∷ sent_tags x.0 x.1.1.1.tags) =

@@ -4,8 +4,8 @@ use Rattle.std.specs.Prelude.{codes}
 use Rattle.std.specs.Fmt.{decimal}
 use Rattle.std.proofs.lemmas.Fmt.{decimal_digit}
 use Rattle.std.proofs.lemmas.Int.{ints}
-use Rattle.nc_types.specs.Id.{Id, IsTime, IsTag}
-use Rattle.nc_types.specs.Cursor.{AreTags}
+use Rattle.nc_types.specs.Id.{Id, IsTime, IsTag, last_second}
+use Rattle.nc_types.specs.Cursor.{AreTags, as_cursor}
 use Rattle.nc_types.specs.Text.{quoted}
 use Rattle.nc_types.specs.declared.start.Start.{Start}
 use Rattle.nc_types.specs.declared.start.Start.TheVariants.{Oldest, Newest, Given}
@@ -13,7 +13,8 @@ use Rattle.nc_grammar.specs.Reading.{Read, Found, Stuck, map_read}
 use Rattle.nc_grammar.specs.Number.{is_digit, number_at}
 use Rattle.nc_grammar.specs.Label.{label_at}
 use Rattle.nc_grammar.specs.Quoted.{AreBytes}
-use Rattle.nc_grammar.specs.Maybe.{option_at, joined_at, two_at, AtMost, OrNone, or_dash, joined_text, SomeFit}
+use Rattle.nc_grammar.specs.Maybe.{option_at, joined_at, two_at, OrNone}
+use Rattle.nc_grammar.proofs.Texts.{AtMost, or_dash, SomeFit}
 use Rattle.nc_grammar.specs.Whole.{IsLine}
 use Rattle.nc_grammar.proofs.Split.{head_is, not_nil}
 use Rattle.nc_grammar.proofs.Exact.{IsExact, IsExact-same, IsExact-named, IsExact-read, Named}
@@ -27,7 +28,7 @@ use Rattle.nc_grammar.proofs.Forms.{number_form, maybe_form, joined_form}
 use Rattle.nc_journal_field.specs.Field.{truth_text, optional, start_text, info_text, full_text}
 use Rattle.nc_types.specs.Written.{joined, tag_text, id_text, cursor_text}
 use Rattle.nc_journal_read.specs.Fit.{IsU64, IsId, IsCursor, IsCursorIfGiven, IsInfo, IsFull}
-use Rattle.nc_journal_read.specs.ValueReader.{u64_at, time_at, truth_of, truth_at, tag_of, tag_at, id_of, id_at, cursor_of, cursor_at, start_word_at, start_at, info_of, info_at, full_of, full_at}
+use Rattle.nc_journal_read.specs.ValueReader.{u64_at, time_at, truth_of, truth_at, tag_of, tag_at, id_of, written_id_at, cursor_at, start_word_at, start_at, info_of, info_at, full_of, full_at}
 
 -- the same values and texts in other words
 pub reworded : {A : Type 0} (F G : A → Type 0) (f g : A → List ℕ) (stays : ℕ → Bool) (read : List ℕ → Read A) → ((a : A) → F a → G a) → ((a : A) → G a → F a) → ((a : A) → G a → f a ≡ g a) → IsExact (IsLine F f) stays read → IsExact (IsLine G g) stays read
@@ -158,12 +159,12 @@ two_named c cs to F f G g H h stays later read more apart x y there back =
     (IsExact-named to (IsTwo (c ∷ cs) (IsLine F f) (IsLine G g)) (either stays (either nothing later)) (two_at (c ∷ cs) read more) (two_exact c cs (IsLine F f) (IsLine G g) stays later read more apart x y))
 
 pub time_form : IsExact (IsLine IsTime decimal) is_digit time_at
-time_form = number_form 253402300799 (omega arith)
+time_form = number_form last_second (omega arith)
 
 abbrev pub id_stays : ℕ → Bool
 id_stays = either is_digit (either nothing is_digit)
 
-pub id_form : IsExact (IsLine IsId id_text) (either is_digit (either nothing is_digit)) id_at
+pub id_form : IsExact (IsLine IsId id_text) (either is_digit (either nothing is_digit)) written_id_at
 id_form =
     two_named 58 [] id_of IsTime decimal IsTag tag_text IsId id_text is_digit is_digit time_at tag_at refl time_form tag_form
     (λ x p q. (record { time = p; tag = q }, append_assoc (decimal x.0) (58 ∷ []) (tag_text x.1))) (λ y m. ((y.time, y.tag), refl, m.time, m.tag))
@@ -171,15 +172,11 @@ id_form =
 id_first : IsDigitFirst (IsLine IsId id_text)
 id_first = digit_first (IsLine IsId id_text) (λ id u m. record { number = id.time; within = omega (arith, m.fits.time); behind = 58 ∷ tag_text id.tag; text = m.text ∙ append_assoc (decimal id.time) (58 ∷ []) (tag_text id.tag) })
 
-pub optional_id_form : IsExact (IsLine (OrNone IsId) (optional id_text)) (either is_digit (either nothing is_digit)) (option_at id_at)
-optional_id_form = optional_form IsId id_text (either is_digit (either nothing is_digit)) id_at (no_dash (IsLine IsId id_text) id_first) id_form
-
-pub joined_is : {A : Type 0} (text : A → List ℕ) (xs : List A) → joined_text text xs ≡ joined text xs
-joined_is text [] = refl
-joined_is text (x ∷ xs) = refl
+pub optional_id_form : IsExact (IsLine (OrNone IsId) (optional id_text)) (either is_digit (either nothing is_digit)) (option_at written_id_at)
+optional_id_form = optional_form IsId id_text (either is_digit (either nothing is_digit)) written_id_at (no_dash (IsLine IsId id_text) id_first) id_form
 
 pub tags_form : IsExact (IsLine (SomeFit IsTag) (joined tag_text)) (either is_digit (or_comma is_digit)) (joined_at tag_at)
-tags_form = reworded (SomeFit IsTag) (SomeFit IsTag) (joined_text tag_text) (joined tag_text) (either is_digit (or_comma is_digit)) (joined_at tag_at) (λ xs h. h) (λ xs h. h) (λ xs h. joined_is tag_text xs) (joined_form IsTag tag_text is_digit tag_at refl tag_form)
+tags_form = joined_form IsTag tag_text is_digit tag_at refl tag_form
 
 pub some_tags : (tags : List ℤ) → SomeFit IsTag tags → (0 < length tags) × AreTags tags
 some_tags [] h = absurd h
@@ -194,7 +191,7 @@ tags_stay = either is_digit (or_comma is_digit)
 
 pub cursor_form : IsExact (IsLine IsCursor (cursor_text None)) (either is_digit (either nothing (either is_digit (or_comma is_digit)))) cursor_at
 cursor_form =
-    two_named 58 [] cursor_of IsTime decimal (SomeFit IsTag) (joined tag_text) IsCursor (cursor_text None) is_digit (either is_digit (or_comma is_digit)) time_at (joined_at tag_at) refl time_form tags_form
+    two_named 58 [] as_cursor IsTime decimal (SomeFit IsTag) (joined tag_text) IsCursor (cursor_text None) is_digit (either is_digit (or_comma is_digit)) time_at (joined_at tag_at) refl time_form tags_form
     (λ x p q. (let k = some_tags x.1 q in record { time = p; some = k.0; tags = k.1 }, append_assoc (decimal x.0) (58 ∷ []) (joined tag_text x.1))) (λ y m. ((y.time, y.tags), refl, m.time, tags_some y.tags m.some m.tags))
 
 cursor_first : IsDigitFirst (IsLine IsCursor (cursor_text None))
@@ -282,9 +279,9 @@ map_same : {A : Type 0} (x : Read A) → map_read (λ (a : A). a) x ≡ x
 map_same (Found a r) = refl
 map_same (Stuck r) = refl
 
-later_form : IsExact (IsLine LaterFits later_text) (either is_digit (either nothing id_stays)) (λ t. map_read (λ (x : ℕ × Option Id). x) (two_at (47 ∷ []) u64_at (option_at id_at) t))
+later_form : IsExact (IsLine LaterFits later_text) (either is_digit (either nothing id_stays)) (λ t. map_read (λ (x : ℕ × Option Id). x) (two_at (47 ∷ []) u64_at (option_at written_id_at) t))
 later_form =
-    two_named 47 [] (λ x. x) IsU64 decimal (OrNone IsId) (optional id_text) LaterFits later_text is_digit id_stays u64_at (option_at id_at) refl u64_form optional_id_form
+    two_named 47 [] (λ x. x) IsU64 decimal (OrNone IsId) (optional id_text) LaterFits later_text is_digit id_stays u64_at (option_at written_id_at) refl u64_form optional_id_form
     (λ x p q. ((p, q), refl)) (λ y m. (y, refl, m.0, m.1))
 
 left_grouped : (a b c d e : List ℕ) → a ++ b ++ c ++ d ++ e ≡ a ++ (b ++ (c ++ (d ++ e)))
@@ -292,8 +289,8 @@ left_grouped a b c d e = append_assoc (a ++ b ++ c) d e ∙ append_assoc (a ++ b
 
 info_form : IsExact (IsLine IsInfo info_text) (either is_digit (either nothing (either is_digit (either nothing id_stays)))) info_at
 info_form =
-    two_named 47 [] info_of (AtMost 4294967295) decimal LaterFits later_text IsInfo info_text is_digit (either is_digit (either nothing id_stays)) (number_at 4294967295) (two_at (47 ∷ []) u64_at (option_at id_at)) refl (number_form 4294967295 (omega arith))
-    (IsExact-read (IsLine LaterFits later_text) (either is_digit (either nothing id_stays)) _ (two_at (47 ∷ []) u64_at (option_at id_at)) (λ t. map_same (two_at (47 ∷ []) u64_at (option_at id_at) t)) later_form)
+    two_named 47 [] info_of (AtMost 4294967295) decimal LaterFits later_text IsInfo info_text is_digit (either is_digit (either nothing id_stays)) (number_at 4294967295) (two_at (47 ∷ []) u64_at (option_at written_id_at)) refl (number_form 4294967295 (omega arith))
+    (IsExact-read (IsLine LaterFits later_text) (either is_digit (either nothing id_stays)) _ (two_at (47 ∷ []) u64_at (option_at written_id_at)) (λ t. map_same (two_at (47 ∷ []) u64_at (option_at written_id_at) t)) later_form)
     (λ x p q. (record { messages = p; members = q.0; last = q.1 }, left_grouped (decimal x.0) (47 ∷ []) (decimal x.1.0) (47 ∷ []) (optional id_text x.1.1))) (λ y m. ((y.messages, (y.members, y.last)), refl, m.messages, (m.members, m.last)))
 
 info_first : IsDigitFirst (IsLine IsInfo info_text)

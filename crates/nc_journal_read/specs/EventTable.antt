@@ -3,7 +3,7 @@ use Rattle.std.specs.Prelude.{ℕ, List, [], ◌∷◌, ◌++◌, codes}
 use Rattle.nc_grammar.specs.Reading.{Read, map_read}
 use Rattle.nc_grammar.specs.Rows.{Kit, Field, Row, Values, fields_at, line_at}
 use Rattle.nc_journal.specs.Word.{act_word, mode_word, left_word, removed_word, ended_word, shut_word, kind_word}
-use Rattle.nc_journal.specs.Line.{alert_text}
+use Rattle.nc_journal.specs.EventLine.{alert_text}
 use Rattle.nc_journal_read.specs.Fit.{AlertFits}
 use Rattle.nc_journal_read.specs.Shape.{Shape, number, truth, text, id, cursor, start, list, looks, optional_number, optional_text, optional_id, optional_info, optional_list, ValueOf, FitsOf, value_text, value_at}
 use Rattle.nc_journal_read.specs.WordTable.{act_at, mode_at, left_at, removed_at, ended_at, shut_at, kind_at}

@@ -86,9 +86,11 @@ EventFits (Started w k cur) = IsU64 w × IsU64 k × IsCursor cur
 EventFits (Joined w c from k) = IsU64 w × AreBytes c × IsU64 from × IsU64 k
 EventFits (Parted w c from k) = IsU64 w × AreBytes c × IsU64 from × IsU64 k
 EventFits (Raised w t) = IsU64 w × IsU64 t
-EventFits (Stored w c id slot len exp kept members from r ct body) = IsU64 w × AreBytes c × IsId id × IsU64 slot × IsU64 len × IsU64 exp × IsU64 members × IsU64 from × IsU64 r × OrNone AreBytes ct × AreBytes body
+EventFits (Stored w c id slot len exp kept members from r ct body) = IsU64 w × AreBytes c × IsId id × IsU64 slot × IsU64 len × IsU64 exp × IsU64 members
+    × IsU64 from × IsU64 r × OrNone AreBytes ct × AreBytes body
 EventFits (Left w c id slot cause) = IsU64 w × AreBytes c × IsId id × IsU64 slot
-EventFits (Looked w q from number c after floor found) = IsU64 w × IsU64 q × IsU64 from × IsU64 number × AreBytes c × IsId after × IsU64 floor × OrNone IsId found
+EventFits (Looked w q from number c after floor found) = IsU64 w × IsU64 q × IsU64 from × IsU64 number × AreBytes c × IsId after × IsU64 floor
+    × OrNone IsId found
 EventFits (Edged w q from number k c floor last) = IsU64 w × IsU64 q × IsU64 from × IsU64 number × IsU64 k × AreBytes c × IsU64 floor × IsId last
 EventFits (Granted w g slot to) = IsU64 w × IsU64 g × IsU64 slot × IsU64 to
 EventFits (Released w owner g slot) = IsU64 w × IsU64 owner × IsU64 g × IsU64 slot

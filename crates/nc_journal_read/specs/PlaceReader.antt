@@ -2,7 +2,7 @@
 use Rattle.std.specs.Prelude.{◌<◌, ℕ, ℤ, zero, suc, List, [], ◌∷◌, ◌++◌, length, codes, Some}
 use Rattle.std.specs.Fmt.{decimal}
 use Rattle.nc_types.specs.Id.{Id}
-use Rattle.nc_types.specs.Cursor.{CursorAt}
+use Rattle.nc_types.specs.Cursor.{CursorAt, as_cursor}
 use Rattle.nc_types.specs.Text.{quoted}
 use Rattle.nc_grammar.specs.Reading.{Read, map_read, go_on, with_first}
 use Rattle.nc_grammar.specs.Label.{label_at, field_at}
@@ -10,7 +10,7 @@ use Rattle.nc_grammar.specs.Quoted.{AreBytes, quoted_at}
 use Rattle.nc_grammar.specs.Maybe.{more_at, joined_at, two_at, if_first}
 use Rattle.nc_types.specs.Written.{id_text, cursor_text}
 use Rattle.nc_journal_read.specs.Fit.{IsU64, IsId, IsCursor}
-use Rattle.nc_journal_read.specs.ValueReader.{u64_at, time_at, tag_at, id_at, cursor_of}
+use Rattle.nc_journal_read.specs.ValueReader.{u64_at, time_at, tag_at, written_id_at}
 
 -- a place, a channel, an id and a cursor
 abbrev pub Sending : Type 0
@@ -56,8 +56,8 @@ sent_tags_at (suc i) t = bracketed_at (suc i) t
 
 -- reads the cursor that a message of place i moved
 abbrev pub sent_cursor_at : ℕ → List ℕ → Read CursorAt
-sent_cursor_at i t = map_read cursor_of (two_at (58 ∷ []) time_at (sent_tags_at i) t)
+sent_cursor_at i t = map_read as_cursor (two_at (58 ∷ []) time_at (sent_tags_at i) t)
 
 -- reads a place, a channel, an id and a cursor
 abbrev pub sending_at : List ℕ → Read Sending
-sending_at t = go_on (u64_at t) (λ i rest. with_first i (field_at (codes " c=") (two_at (codes " id=") quoted_at (two_at (codes " cur=") id_at (sent_cursor_at i))) rest))
+sending_at t = go_on (u64_at t) (λ i rest. with_first i (field_at (codes " c=") (two_at (codes " id=") quoted_at (two_at (codes " cur=") written_id_at (sent_cursor_at i))) rest))

@@ -14,7 +14,7 @@ use Rattle.nc_grammar.specs.Rows.{Kit, Field}
 use Rattle.nc_journal_field.specs.Field.{truth_text, optional, list_text, numbers_text, subs_text, start_text, info_text, full_text}
 use Rattle.nc_types.specs.Written.{id_text, cursor_text}
 use Rattle.nc_journal_read.specs.Fit.{IsU64, AreNumbers, IsId, IsCursor, IsCursorIfGiven, IsList, IsInfo, IsFull}
-use Rattle.nc_journal_read.specs.ValueReader.{u64_at, truth_at, id_at, cursor_at, start_at, info_at, full_at, numbers_at, subs_at}
+use Rattle.nc_journal_read.specs.ValueReader.{u64_at, truth_at, written_id_at, cursor_at, start_at, info_at, full_at, numbers_at, subs_at}
 use Rattle.nc_journal_list.specs.NameReader.{list_at}
 
 -- what a field can have
@@ -94,7 +94,7 @@ abbrev pub value_at : (s : Shape) → List ℕ → Read (ValueOf s)
 value_at number t = u64_at t
 value_at truth t = truth_at t
 value_at text t = quoted_at t
-value_at id t = id_at t
+value_at id t = written_id_at t
 value_at cursor t = cursor_at t
 value_at start t = start_at t
 value_at list t = list_at t
@@ -102,7 +102,7 @@ value_at looks t = numbers_at t
 value_at subs t = subs_at t
 value_at optional_number t = option_at u64_at t
 value_at optional_text t = option_at quoted_at t
-value_at optional_id t = option_at id_at t
+value_at optional_id t = option_at written_id_at t
 value_at optional_info t = option_at info_at t
 value_at optional_full t = option_at full_at t
 value_at optional_list t = option_at list_at t

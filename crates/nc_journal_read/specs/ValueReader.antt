@@ -1,7 +1,7 @@
 -- Reading the values that stand in a line.
 use Rattle.std.specs.Prelude.{ℕ, ℤ, pos, negsuc, Bool, List, [], ◌∷◌, length, nat_lt, Option, Some, None, codes}
 use Rattle.nc_types.specs.Id.{Id, last_second, last_tag}
-use Rattle.nc_types.specs.Cursor.{CursorAt}
+use Rattle.nc_types.specs.Cursor.{CursorAt, as_cursor}
 use Rattle.nc_types.specs.declared.info.Info.{Info as InfoOf}
 use Rattle.nc_types.specs.declared.info.FullLine.{FullLine}
 use Rattle.nc_types.specs.declared.start.Start.{Start}
@@ -41,16 +41,12 @@ abbrev pub id_of : ℕ × ℤ → Id
 id_of x = record { time = x.0; tag = x.1 }
 
 -- reads an id
-abbrev pub id_at : List ℕ → Read Id
-id_at t = map_read id_of (two_at (58 ∷ []) time_at tag_at t)
-
--- a time and tags as a cursor
-abbrev pub cursor_of : ℕ × List ℤ → CursorAt
-cursor_of x = record { time = x.0; tags = x.1 }
+abbrev pub written_id_at : List ℕ → Read Id
+written_id_at t = map_read id_of (two_at (58 ∷ []) time_at tag_at t)
 
 -- reads a cursor
 abbrev pub cursor_at : List ℕ → Read CursorAt
-cursor_at t = map_read cursor_of (two_at (58 ∷ []) time_at (joined_at tag_at) t)
+cursor_at t = map_read as_cursor (two_at (58 ∷ []) time_at (joined_at tag_at) t)
 
 -- reads a word that stands for a start
 abbrev pub start_word_at : Start → List ℕ → List ℕ → Read Start
@@ -66,7 +62,7 @@ info_of x = record { messages = x.0; members = x.1.0; last = x.1.1 }
 
 -- reads how many messages, how many members, and the last id, if any
 abbrev pub info_at : List ℕ → Read InfoOf
-info_at t = map_read info_of (two_at (47 ∷ []) (number_at 4294967295) (two_at (47 ∷ []) u64_at (option_at id_at)) t)
+info_at t = map_read info_of (two_at (47 ∷ []) (number_at 4294967295) (two_at (47 ∷ []) u64_at (option_at written_id_at)) t)
 
 -- the values of a full line
 abbrev pub full_of : ℕ × ℕ → FullLine

@@ -5,7 +5,7 @@ ghost use Rattle.nc_grammar.specs.Gives.{Gives};
 ghost use Rattle.nc_grammar.specs.Label.{field_at};
 ghost use Rattle.nc_grammar.specs.Maybe.{option_at};
 ghost use Rattle.nc_grammar.specs.Quoted.{quoted_at};
-ghost use Rattle.nc_journal_read.specs.ValueReader.{u64_at, truth_at, id_at, cursor_at, start_at, info_at, full_at, numbers_at, subs_at};
+ghost use Rattle.nc_journal_read.specs.ValueReader.{u64_at, truth_at, written_id_at, cursor_at, start_at, info_at, full_at, numbers_at, subs_at};
 
 use crate::value_reading::{
     any_cursor, any_numbers, any_start, channel_info, full_line, msg_id, numbers_or_dash,
@@ -71,14 +71,14 @@ pub(crate) fn name(alloc: Global, reader: &mut Reader<'_>, label: &[u8]) -> Resu
 }
 
 pub(crate) fn id(reader: &mut Reader<'_>, label: &[u8]) -> Result<MsgId, Fault>
-    ensures { Gives reader.new result (field_at label.now id_at reader.old) }
+    ensures { Gives reader.new result (field_at label.now written_id_at reader.old) }
 {
     reader.label(label)?;
     msg_id(reader)
 }
 
 pub(crate) fn optional_id(reader: &mut Reader<'_>, label: &[u8]) -> Result<Option<MsgId>, Fault>
-    ensures { Gives reader.new result (field_at label.now (option_at id_at) reader.old) }
+    ensures { Gives reader.new result (field_at label.now (option_at written_id_at) reader.old) }
 {
     reader.label(label)?;
     optional_msg_id(reader)

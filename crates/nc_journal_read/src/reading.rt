@@ -7,7 +7,7 @@ ghost use Rattle.nc_grammar.specs.Label.{word_at};
 ghost use Rattle.nc_grammar.specs.Rows.{nth_at, words_of};
 ghost use Rattle.nc_grammar.specs.Whole.{IsLine};
 ghost use Rattle.nc_journal_read.specs.Fit.{EventFits};
-ghost use Rattle.nc_journal.specs.Line.{line as line_text};
+ghost use Rattle.nc_journal.specs.EventLine.{line as line_text};
 ghost use Rattle.nc_journal_read.specs.BadLine.{IsBadLine};
 ghost use Rattle.nc_journal_read.specs.EventTable.{parts, clock_row, event_rows, event_at};
 ghost use Rattle.nc_journal.specs.declared.event.Event.{Event as EventOf};

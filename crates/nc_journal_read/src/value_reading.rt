@@ -5,7 +5,7 @@ ghost use Rattle.nc_types.specs.Cursor.{AreTags};
 ghost use Rattle.nc_grammar.specs.Gives.{Gives, GivesBy};
 ghost use Rattle.nc_grammar.specs.Reading.{map_read};
 ghost use Rattle.nc_grammar.specs.Maybe.{option_at, joined_at, more_at};
-ghost use Rattle.nc_journal_read.specs.ValueReader.{u64_at, tag_at, id_at, cursor_at, start_at, info_at, full_at, numbers_at, subs_at};
+ghost use Rattle.nc_journal_read.specs.ValueReader.{u64_at, tag_at, written_id_at, cursor_at, start_at, info_at, full_at, numbers_at, subs_at};
 
 use nc_grammar::{Fault, Reader};
 use nc_types::{Cursor, FullLine, GREATEST_TIME, Info, List, MsgId, Start};
@@ -53,7 +53,7 @@ fn tags(alloc: Global, reader: &mut Reader<'_>) -> Result<List<i32>, Fault>
 }
 
 pub(crate) fn msg_id(reader: &mut Reader<'_>) -> Result<MsgId, Fault>
-    ensures { Gives reader.new result (id_at reader.old) }
+    ensures { Gives reader.new result (written_id_at reader.old) }
 {
     let time = reader.number(GREATEST_TIME)?;
     reader.label(b":")?;
@@ -62,7 +62,7 @@ pub(crate) fn msg_id(reader: &mut Reader<'_>) -> Result<MsgId, Fault>
 }
 
 pub(crate) fn optional_msg_id(reader: &mut Reader<'_>) -> Result<Option<MsgId>, Fault>
-    ensures { Gives reader.new result (option_at id_at reader.old) }
+    ensures { Gives reader.new result (option_at written_id_at reader.old) }
 {
     if reader.takes(b'-') {
         return Ok(None);

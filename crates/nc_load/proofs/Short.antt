@@ -8,8 +8,8 @@ use Rattle.nc_load.specs.declared.draw.Draw.{Draw}
 use Rattle.nc_load.specs.declared.draw.Kind.{Kind}
 use Rattle.nc_load.specs.declared.draw.Kind.TheVariants.{Post, Poll, Clock, Reap, Remove}
 use Rattle.nc_load.specs.Generator.{drawn, high}
-use Rattle.nc_load.specs.Line.{draw_of, line, line_at, line_of_kind, clock_line}
-use Rattle.nc_load.specs.Script.{configuration, clocks, rule_line, front, settle_line, settled_after, settled_at_end, lines_drawn, ended, text_of, script}
+use Rattle.nc_load.specs.DrawnLine.{draw_of, line, line_at, line_of_kind, clock_line}
+use Rattle.nc_load.specs.Script.{configuration, clocks, rule_line, front, settle_line, settled_after, settled_at_end, lines_drawn, ended, text_of, script, longest_script}
 
 -- the bound of what stands behind something
 behind : (xs ys : List ℕ) (a b c : ℕ) → length xs ≤ a → length ys ≤ b → a + b ≤ c → length (xs ++ ys) ≤ c
@@ -89,7 +89,7 @@ front_short =
     let first : length (text_of (configuration ++ rule_line ∷ [])) ≤ 90 = omega arith in
     omega (arith, first, clocks_short, ap (λ (t : List ℕ). length t) both, length-append (text_of (configuration ++ rule_line ∷ [])) (text_of clocks))
 
-pub script_short : (seed size : ℕ) → size ≤ 65535 → length (script seed size) ≤ 67108864
+pub script_short : (seed size : ℕ) → size ≤ 65535 → length (script seed size) ≤ longest_script
 script_short seed size few =
     let drawn_lines = lines_drawn seed size in
     let last = settled_at_end size in

@@ -4,7 +4,7 @@ use Rattle.std.proofs.lemmas.List.{append-nil}
 use Rattle.std.proofs.lemmas.List.Concat.{flat_map-append}
 use Rattle.nc_load.specs.declared.draw.Draw.{Draw}
 use Rattle.nc_load.specs.Generator.{drawn, next, high}
-use Rattle.nc_load.specs.Line.{draw_of, line}
+use Rattle.nc_load.specs.DrawnLine.{draw_of, line}
 use Rattle.nc_load.specs.Script.{lines_drawn, settled_after, settled_at_end, ended, text_of}
 
 -- lines behind others have their text behind the text of those

@@ -1,3 +1,3 @@
 pub mod Generator
-pub mod Line
+pub mod DrawnLine
 pub mod Script

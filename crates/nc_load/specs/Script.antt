@@ -1,7 +1,7 @@
 -- The lines of a load, and their text.
 use Rattle.std.specs.Prelude.{ℕ, zero, suc, ◌%◌, List, [], ◌∷◌, ◌++◌, codes, if◌then◌else◌, ◌==◌}
 use Rattle.std.specs.List.{flat_map}
-use Rattle.nc_load.specs.Line.{clock_line, line_at}
+use Rattle.nc_load.specs.DrawnLine.{clock_line, line_at}
 
 -- the configuration: four workers, each with 256 slots, and channels that keep 8 messages
 abbrev pub configuration : List (List ℕ)
@@ -48,3 +48,7 @@ text_of lines = flat_map ended lines
 -- the script of a seed and a size
 abbrev pub script : ℕ → ℕ → List ℕ
 script seed size = text_of (script_lines seed size)
+
+-- the most bytes of a load's script, as of any input of a replay
+abbrev pub longest_script : ℕ
+longest_script = 67108864

@@ -1,7 +1,7 @@
 //! The numbers that a seed draws, and what each says.
 ghost use Rattle.std.specs.Prelude.{◌≡◌, ◌<◌};
 ghost use Rattle.nc_load.specs.Generator.{next, high};
-ghost use Rattle.nc_load.specs.Line.{kind_of, draw_of};
+ghost use Rattle.nc_load.specs.DrawnLine.{kind_of, draw_of};
 
 const MULTIPLIER: u64 = 6_364_136_223_846_793_005;
 

@@ -1,7 +1,7 @@
 //! The lines of a load, each put behind a text. Without memory a part of a line may stand there.
 ghost use Rattle.std.specs.Prelude.{◌≡◌, ◌++◌, codes, OnOk};
 ghost use Rattle.std.specs.Fmt.{decimal};
-ghost use Rattle.nc_load.specs.Line.{name, post_line, poll_line, clock_line, reap_line, drop_line, line};
+ghost use Rattle.nc_load.specs.DrawnLine.{name, post_line, poll_line, clock_line, reap_line, drop_line, line};
 
 use crate::draw::{Draw, Kind};
 use nc_types::NoMemory;

@@ -1,7 +1,7 @@
 //! The script of a seed and a size.
 ghost use Rattle.std.specs.Prelude.{◌≡◌, ◌++◌, ◌+◌, ◌∷◌, [], ◌<◌, ◌≤◌, ◌^◌, length, OnOk, IfOk};
-ghost use Rattle.nc_load.specs.Line.{clock_line, line};
-ghost use Rattle.nc_load.specs.Script.{configuration, rule_line, front, settle_line, settled_after, settled_at_end, ended, text_of, script};
+ghost use Rattle.nc_load.specs.DrawnLine.{clock_line, line};
+ghost use Rattle.nc_load.specs.Script.{configuration, rule_line, front, settle_line, settled_after, settled_at_end, ended, text_of, script, longest_script};
 
 use crate::draw::{Draw, draw_of, next};
 use crate::line::{put, put_clock, put_line};
@@ -84,7 +84,7 @@ fn put_drawn(out: &mut Vec<u8>, draw: Draw, i: u32) -> Result<(), NoMemory>
 /// Up to the greatest size of a load it has at most as many bytes as a replay takes.
 pub fn make_script(alloc: Global, seed: u64, size: u32) -> Result<Bytes, NoMemory>
     ensures text { IfOk result (λ text. text ≡ script seed size) }
-    ensures few { IfOk result (λ text. size ≤ 65535 → length text ≤ 67108864) }
+    ensures few { IfOk result (λ text. size ≤ 65535 → length text ≤ longest_script) }
 {
     let mut out = Vec::new(alloc);
     put_front(&mut out)?;

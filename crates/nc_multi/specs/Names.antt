@@ -1,14 +1,13 @@
 -- Lists of names without repeats, and when names make none.
-use Rattle.std.specs.Prelude.{◌≡◌, ◌⊎◌, ℕ, ◌<◌, ◌≤◌, not, List, [], ◌∷◌, length, ◌++◌, filter, slice_get, Some, if◌then◌else◌}
+use Rattle.std.specs.Prelude.{◌≡◌, ◌⊎◌, ℕ, ◌<◌, ◌≤◌, not, List, [], ◌∷◌, length, ◌++◌, filter, slice_get, Some, if◌then◌else◌, bytes_eq}
 use Rattle.std.specs.List.{list_any}
-use Rattle.nc_types.specs.Channel.{name_eq}
 use Rattle.nc_multi.specs.declared.list.ListRefusal.{ListRefusal}
 use Rattle.nc_multi.specs.declared.list.ListRefusal.TheVariants as refusals
 
 -- each name at its first place
 abbrev pub distinct : List (List ℕ) → List (List ℕ)
 distinct [] = []
-distinct (name ∷ names) = name ∷ filter (λ other. not (name_eq name other)) (distinct names)
+distinct (name ∷ names) = name ∷ filter (λ other. not (bytes_eq name other)) (distinct names)
 
 -- a name has no bytes
 abbrev pub IsEmpty : List ℕ → Type 0
@@ -23,7 +22,7 @@ abbrev pub NoneIs : (List ℕ → Type 0) → List (List ℕ) → Type 0
 NoneIs P names = (place : ℕ) (name : List ℕ) → slice_get names place ≡ Some name → P name → ⊥
 
 -- the first name that has a property, and its place
-pub record IsFirst (P : List ℕ → Type 0) (names : List (List ℕ)) (place : ℕ) (name : List ℕ) : Type 0 where
+pub record IsFirstNameWith (P : List ℕ → Type 0) (names : List (List ℕ)) (place : ℕ) (name : List ℕ) : Type 0 where
   pub stands : slice_get names place ≡ Some name
   pub has : P name
   pub none_before : (k : ℕ) (other : List ℕ) → k < place → slice_get names k ≡ Some other → P other → ⊥
@@ -38,13 +37,13 @@ pub record IsListOf (names : List (List ℕ)) (longest most : ℕ) (list : List 
 
 -- no name, or an empty one
 abbrev pub IsEmptyAt : List (List ℕ) → ℕ → Type 0
-IsEmptyAt names place = ((names ≡ []) × (place ≡ 0)) ⊎ ((name : List ℕ) × IsFirst IsEmpty names place name)
+IsEmptyAt names place = ((names ≡ []) × (place ≡ 0)) ⊎ ((name : List ℕ) × IsFirstNameWith IsEmpty names place name)
 
 -- no empty name, and one that is too long
 pub record IsTooLong (names : List (List ℕ)) (longest place size : ℕ) : Type 0 where
   pub none_empty : NoneIs IsEmpty names
   pub name : List ℕ
-  pub first : IsFirst (IsLonger longest) names place name
+  pub first : IsFirstNameWith (IsLonger longest) names place name
   pub size_is : size ≡ length name
 
 -- one name or more, which each could stand in a list
@@ -70,4 +69,4 @@ IsRefused names longest most refusals.NoMemory = CouldStand names longest
 
 -- names and one more behind them, unless it is among them
 abbrev pub with_name : List (List ℕ) → List ℕ → List (List ℕ)
-with_name names name = if list_any (name_eq name) names then names else names ++ name ∷ []
+with_name names name = if list_any (bytes_eq name) names then names else names ++ name ∷ []

@@ -1,7 +1,7 @@
 //! A list from names.
 ghost use Rattle.std.specs.Prelude.{◌≡◌, ℕ, ◌<◌, ◌≤◌, ◌∷◌, [], length, List as Items, IfOk, IfErr, IfSome, IfNone, OnOk, OnErr};
 ghost use Rattle.nc_multi.specs.declared.list.ListRefusal.TheVariants.{NoMemory as NoMemoryLeft};
-ghost use Rattle.nc_multi.specs.Names.{distinct, IsEmpty, IsLonger, NoneIs, IsFirst, IsListOf, IsRefused, with_name};
+ghost use Rattle.nc_multi.specs.Names.{distinct, IsEmpty, IsLonger, NoneIs, IsFirstNameWith, IsListOf, IsRefused, with_name};
 
 use nc_types::{Bytes, ChanList, ChanName, List, NoMemory, SeenNames};
 use std::alloc::Global;
@@ -29,7 +29,7 @@ impl From<NoMemory> for ListRefusal {
 
 /// The place of the first name without bytes.
 fn first_empty(names: &[Bytes]) -> Option<usize>
-    ensures some { IfSome result (λ place. (name : Items ℕ) × IsFirst IsEmpty names.now place name) }
+    ensures some { IfSome result (λ place. (name : Items ℕ) × IsFirstNameWith IsEmpty names.now place name) }
     ensures none { IfNone result (NoneIs IsEmpty names.now) }
 {
     for (place, name) in names.iter().enumerate() {
@@ -42,7 +42,7 @@ fn first_empty(names: &[Bytes]) -> Option<usize>
 
 /// The place of the first name that is longer than it may be, and its length.
 fn first_longer(names: &[Bytes], longest: u32) -> Option<(usize, usize)>
-    ensures some { IfSome result (λ found. (name : Items ℕ) × IsFirst (IsLonger longest) names.now found.0 name × (found.1 ≡ length name)) }
+    ensures some { IfSome result (λ found. (name : Items ℕ) × IsFirstNameWith (IsLonger longest) names.now found.0 name × (found.1 ≡ length name)) }
     ensures none { IfNone result (NoneIs (IsLonger longest) names.now) }
 {
     for (place, name) in names.iter().enumerate() {

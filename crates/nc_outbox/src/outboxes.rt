@@ -60,7 +60,9 @@ fn put_into<H: Drop>(
 ) -> Result<u64, NoMemory>
     ensures number { IfOk result (λ n. n ≡ next_in (box_of first boxes.old.items) outgoing.to) }
     ensures next { OnOk result (next_in (box_of first boxes.new.items) ≡ numbered (next_in (box_of first boxes.old.items)) outgoing.to) }
-    ensures packets { OnOk result (packets_in (box_of first boxes.new.items) ≡ with_at (packets_in (box_of first boxes.old.items)) outgoing.to (packets_in (box_of first boxes.old.items) outgoing.to ++ packet_of from (next_in (box_of first boxes.old.items) outgoing.to) outgoing ∷ [])) }
+    ensures packets { OnOk result (packets_in (box_of first boxes.new.items)
+        ≡ with_at (packets_in (box_of first boxes.old.items)) outgoing.to (packets_in (box_of first boxes.old.items) outgoing.to
+        ++ packet_of from (next_in (box_of first boxes.old.items) outgoing.to) outgoing ∷ [])) }
 {
     let to = usize::from(outgoing.to);
     reach(alloc, first, boxes, to)?;
@@ -86,7 +88,8 @@ impl<H: Drop> Outboxes<H> {
     pub fn post(&mut self, from: u8, outgoing: Outgoing<H>) -> Result<Event, NoMemory>
         ensures event { IfOk result (λ event. event ≡ Made from outgoing.to (next_of self.old outgoing.to) (alert_line outgoing.alert)) }
         ensures next { OnOk result (next_of self.new ≡ numbered (next_of self.old) outgoing.to) }
-        ensures packets { OnOk result (packets_of self.new ≡ with_at (packets_of self.old) outgoing.to (packets_of self.old outgoing.to ++ packet_of from (next_of self.old outgoing.to) outgoing ∷ [])) }
+        ensures packets { OnOk result (packets_of self.new
+            ≡ with_at (packets_of self.old) outgoing.to (packets_of self.old outgoing.to ++ packet_of from (next_of self.old outgoing.to) outgoing ∷ [])) }
     {
         let a = line_of(&outgoing.alert)?;
         let to = outgoing.to;

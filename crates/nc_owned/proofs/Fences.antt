@@ -8,19 +8,19 @@ use Rattle.nc_owner.specs.Fence.{with_floor, raise_events}
 use Rattle.nc_owner.specs.Edge.{edged, edge_events, edge_after}
 use Rattle.nc_owner.specs.Look.{look_events}
 use Rattle.nc_owner.specs.OtherSteps.{touched_row}
-use Rattle.nc_owner_laws.specs.Fits.{Fits}
+use Rattle.nc_owner_laws.specs.OwnerFits.{OwnerFits}
 use Rattle.nc_owner_laws.specs.Kinds.{IsOfOwner, AreOfOwner}
 use Rattle.nc_owner_laws.proofs.Kept.{all_append}
 use Rattle.nc_owner_laws.proofs.Steps.{touch_fits}
 use Rattle.nc_owner_laws.proofs.EventKinds.{owners_kinds}
 
-pub fenced_fits : (fence : ℕ) (row : List (Slot Message)) (s : OwnerAt) → Fits row s → Fits row (with_floor fence s)
+pub fenced_fits : (fence : ℕ) (row : List (Slot Message)) (s : OwnerAt) → OwnerFits row s → OwnerFits row (with_floor fence s)
 fenced_fits fence row s f = record { names = f.names; slots = f.slots; apart = f.apart; number = f.number; kept = f.kept; regular = f.regular }
 
-edged_fits : (row : List (Slot Message)) (s : OwnerAt) → Fits row s → Fits row (edged s)
+edged_fits : (row : List (Slot Message)) (s : OwnerAt) → OwnerFits row s → OwnerFits row (edged s)
 edged_fits row s f = record { names = f.names; slots = f.slots; apart = f.apart; number = f.number; kept = f.kept; regular = f.regular }
 
-pub edge_fits : (fence : ℕ) (c : List ℕ) (row : List (Slot Message)) (s : OwnerAt) → Fits row s → Fits (touched_row c row (with_floor fence s)) (edge_after c row (with_floor fence s))
+pub edge_fits : (fence : ℕ) (c : List ℕ) (row : List (Slot Message)) (s : OwnerAt) → OwnerFits row s → OwnerFits (touched_row c row (with_floor fence s)) (edge_after c row (with_floor fence s))
 edge_fits fence c row s f = edged_fits _ _ (touch_fits c row (with_floor fence s) (fenced_fits fence row s f))
 
 -- the events of a look and of an edge with a fence are the owner's

@@ -18,7 +18,7 @@ use Rattle.nc_owner.specs.AlertLines.{OutLine, out_line, out_lines}
 use Rattle.nc_owner.specs.Look.{found_on, found_line, found_desk, look_ready, look_alerts}
 use Rattle.nc_owner.specs.TouchedLook.{CarriesFound, CarriesSeen}
 use Rattle.nc_owner.specs.OtherSteps.{touched_of}
-use Rattle.nc_owner_laws.specs.Fits.{Fits}
+use Rattle.nc_owner_laws.specs.OwnerFits.{OwnerFits}
 use Rattle.nc_owner_laws.specs.Kept.{IsIn, AreIn}
 use Rattle.nc_owner_laws.proofs.Leaving.{let_go_fits}
 use Rattle.nc_owner_laws.proofs.Opening.{rest_of}
@@ -54,7 +54,7 @@ module _ {H : Type 0} (held : H → HoldAt) where
   entry_in id es row None is all = tt
   entry_in id es row (Some e) is all = first_is (λ (e : Entry). is_past e.id id) (λ (e : Entry). IsIn (slot_at row e.slot) e) e es is all
 
-  pub looked_granted : (from number : ℕ) (c : List ℕ) (id : Id) (row : List (Slot Message)) (s : OwnerAt) (os : List (Outgoing H)) → Fits row s → out_lines os ≡ look_alerts from number c id row s
+  pub looked_granted : (from number : ℕ) (c : List ℕ) (id : Id) (row : List (Slot Message)) (s : OwnerAt) (os : List (Outgoing H)) → OwnerFits row s → out_lines os ≡ look_alerts from number c id row s
       → AllByRecursion (CarriesSeen held id (touched_of c row s)) os → AllGranted held s.desk.me os
   looked_granted from number c id row s [] f said carries = tt
   looked_granted from number c id row s (o ∷ []) f said carries =

@@ -21,7 +21,7 @@ use Rattle.nc_owner.specs.declared.order.Order.{Order}
 use Rattle.nc_owner.specs.declared.desk.Desk.{Desk}
 use Rattle.nc_owner.specs.State.{OwnerAt, Bench}
 use Rattle.nc_owner.specs.Publish.{Polls, Outcome, late, full, stored, post_bench, kept_desk, granted_desk, roomy, asked, lowest_slot}
-use Rattle.nc_owner_laws.specs.Fits.{Fits}
+use Rattle.nc_owner_laws.specs.OwnerFits.{OwnerFits}
 use Rattle.nc_owner.specs.Holds.{IsHoldOf, AllCarry}
 use Rattle.nc_owner.specs.Pool.{SameOthers}
 use Rattle.nc_owner.proofs.Pools.{other_same}
@@ -30,7 +30,7 @@ use Rattle.nc_owner_laws.specs.Weave.{weave}
 use Rattle.nc_worker_state.specs.Worker.{with_at}
 use Rattle.nc_outbox.specs.Outboxes.{next_of, IsGranted}
 use Rattle.nc_scribe.specs.Kinds.{is_aside, AreAside}
-use Rattle.nc_scribe.specs.Scribe.{ScribeAt, Tells, AllGranted}
+use Rattle.nc_scribe.specs.Scribe.{ScribeAt, TellsMore, AllGranted}
 use Rattle.nc_scribe.proofs.Story.{tells_same}
 
 -- ---- events of owners make nothing
@@ -74,8 +74,8 @@ info_carries_none true r info = refl
 info_carries_none false r info = refl
 
 -- what an owner is left as fits the slots as they are left
-pub fits_left : (row row2 : List (Slot Message)) (s s2 : OwnerAt) → row2 ≡ row → s2 ≡ s → Fits row s → Fits row2 s2
-fits_left row row2 s s2 rows owners f = subst (λ (x : List (Slot Message)). Fits x s2) (sym rows) (subst (λ (x : OwnerAt). Fits row x) (sym owners) f)
+pub fits_left : (row row2 : List (Slot Message)) (s s2 : OwnerAt) → row2 ≡ row → s2 ≡ s → OwnerFits row s → OwnerFits row2 s2
+fits_left row row2 s s2 rows owners f = subst (λ (x : List (Slot Message)). OwnerFits x s2) (sym rows) (subst (λ (x : OwnerAt). OwnerFits row x) (sym owners) f)
 
 kept_me : (kept : Bool) (slot : ℕ) (d : Desk) → (kept_desk kept slot d).me ≡ d.me
 kept_me true slot d = refl
@@ -118,5 +118,5 @@ module _ {H : Type 0} where
 
   -- what an owner did is told as its part
   pub tells_woven : (s t : ScribeAt H) (me : ℕ) (events es : List Event) (os : List (Outgoing H)) (ls : List OutLine) → s.me ≡ me → events ≡ es → out_lines os ≡ ls
-      → Tells s t (weave s.me (next_of s.outboxes) events (out_lines os)) → Tells s t (weave me (next_of s.outboxes) es ls)
+      → TellsMore s t (weave s.me (next_of s.outboxes) events (out_lines os)) → TellsMore s t (weave me (next_of s.outboxes) es ls)
   tells_woven s t me events es os ls is happened said q = tells_same (λ i. weave (is i) (next_of s.outboxes) (happened i) (said i)) q

@@ -16,7 +16,7 @@ use Rattle.nc_owner.specs.Remove.{after_removal, alerts_of_removal, concerned, d
 use Rattle.nc_owner.specs.State.{OwnerAt, exists, opened}
 use Rattle.nc_reaper.specs.Reap.{Step, Swept, polled_step, state, steps_of, sweep_step, swept, swept_all}
 use Rattle.nc_reaper.proofs.Steps.{sweep_me}
-use Rattle.nc_owner_laws.specs.Fits.{Fits}
+use Rattle.nc_owner_laws.specs.OwnerFits.{OwnerFits}
 use Rattle.nc_owner_laws.specs.Kinds.{AreOfOwner}
 use Rattle.nc_owner_laws.proofs.Kept.{all_append}
 use Rattle.nc_owner_laws.proofs.Steps.{sweep_fits}
@@ -31,7 +31,7 @@ pub sweeps_me : (names : List (List ℕ)) (x : Swept) → (fold swept x names).o
 sweeps_me [] x = refl
 sweeps_me (c ∷ names) x = sweeps_me names (swept x c) ∙ sweep_me c x.row x.owner
 
-pub sweeps_fit : (names : List (List ℕ)) (x : Swept) → Fits x.row x.owner → Fits (fold swept x names).row (fold swept x names).owner
+pub sweeps_fit : (names : List (List ℕ)) (x : Swept) → OwnerFits x.row x.owner → OwnerFits (fold swept x names).row (fold swept x names).owner
 sweeps_fit [] x f = f
 sweeps_fit (c ∷ names) x f = sweeps_fit names (swept x c) (sweep_fits c x.row x.owner f)
 

@@ -13,7 +13,7 @@ use Rattle.nc_owner_laws.specs.Weave.{weave, makes, numbered, numbered_by}
 use Rattle.nc_worker_state.specs.Deed.{next_after}
 use Rattle.nc_outbox.specs.Outboxes.{next_of}
 use Rattle.nc_scribe.specs.Kinds.{AreAside}
-use Rattle.nc_scribe.specs.Scribe.{ScribeAt, Tells, KeepsOwn, AllGranted}
+use Rattle.nc_scribe.specs.Scribe.{ScribeAt, TellsMore, KeepsOwn, AllGranted}
 use Rattle.nc_scribe.proofs.Story.{tells_on, tells_next, tells_none, tells_same}
 
 -- ---- the numbers behind a weave
@@ -53,7 +53,7 @@ module _ {H : Type 0} where
   pub record TellsSteps (old new : ScribeAt H) (steps left : List (Done H)) : Type 0 where
     pub part : List Event
     pub woven : part ++ steps_woven new.me (next_of new.outboxes) (steps_of left) ≡ steps_woven old.me (next_of old.outboxes) (steps_of steps)
-    pub tells : Tells old new part
+    pub tells : TellsMore old new part
     pub own : (held : H → HoldAt) → AreGranted held old.me steps → KeepsOwn held old new
     pub granted : (held : H → HoldAt) → AreGranted held old.me steps → AreGranted held new.me left
 
@@ -62,7 +62,7 @@ module _ {H : Type 0} where
 
   -- one more was told
   pub steps_next : {a s t : ScribeAt H} {steps left : List (Done H)} {done : Done H} → AreAside done.events.events → TellsSteps a s steps (done ∷ left)
-      → Tells s t (weave s.me (next_of s.outboxes) done.events.events (out_lines done.alerts)) → ((held : H → HoldAt) → AllGranted held s.me done.alerts → KeepsOwn held s t) → TellsSteps a t steps left
+      → TellsMore s t (weave s.me (next_of s.outboxes) done.events.events (out_lines done.alerts)) → ((held : H → HoldAt) → AllGranted held s.me done.alerts → KeepsOwn held s t) → TellsSteps a t steps left
   steps_next {a} {s} {t} {steps} {left} {done} aside p q own =
       let one = weave s.me (next_of s.outboxes) done.events.events (out_lines done.alerts) in
       let numbers : next_of t.outboxes ≡ numbered_by (next_of s.outboxes) (out_lines done.alerts) = tells_next q ∙ numbers_woven s.me (next_of s.outboxes) done.events.events (out_lines done.alerts) aside in
@@ -75,6 +75,6 @@ module _ {H : Type 0} where
       }
 
   -- nothing is left
-  pub steps_told : {a s : ScribeAt H} {steps left : List (Done H)} → left ≡ [] → TellsSteps a s steps left → Tells a s (steps_woven a.me (next_of a.outboxes) (steps_of steps))
+  pub steps_told : {a s : ScribeAt H} {steps left : List (Done H)} → left ≡ [] → TellsSteps a s steps left → TellsMore a s (steps_woven a.me (next_of a.outboxes) (steps_of steps))
   steps_told {a} {s} {steps} {left} none p =
       tells_same (sym (append-nil p.part) ∙ (ap (λ (l : List (Done H)). p.part ++ steps_woven s.me (next_of s.outboxes) (steps_of l)) (sym none) ∙ p.woven)) p.tells

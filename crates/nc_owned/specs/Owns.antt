@@ -5,12 +5,12 @@ use Rattle.nc_slots.specs.declared.slot.Slot.{Slot}
 use Rattle.nc_slots.specs.Slots.{HoldAt}
 use Rattle.nc_owner.specs.State.{OwnerAt}
 use Rattle.nc_owner.specs.Pool.{SameOthers}
-use Rattle.nc_owner_laws.specs.Fits.{Fits}
+use Rattle.nc_owner_laws.specs.OwnerFits.{OwnerFits}
 use Rattle.nc_worker_state.specs.Incoming.{Incoming}
 use Rattle.nc_worker_state.specs.Owned.{Holding, StepPolls, StepPollsFit, owned_in}
 use Rattle.nc_worker_state.specs.Worker.{with_at, part_woven}
 use Rattle.nc_outbox.specs.Outboxes.{next_of}
-use Rattle.nc_scribe.specs.Scribe.{ScribeAt, Tells, KeepsOwn}
+use Rattle.nc_scribe.specs.Scribe.{ScribeAt, TellsMore, KeepsOwn}
 
 -- an owner with its slots and the numbers of its holds
 abbrev pub holding_at : (ℕ → List (Slot Message)) → (ℕ → List ℕ) → OwnerAt → Holding
@@ -22,7 +22,7 @@ pub record Leaves (exact : Bool) (after : Holding) (slots new_slots : ℕ → Li
   pub row : new_slots s.desk.me ≡ after.row
   pub counts : exact ≡ true → new_holds ≡ with_at holds s.desk.me after.counts
   pub others : SameOthers s.desk.me slots new_slots
-  pub fits : Fits (new_slots s.desk.me) new
+  pub fits : OwnerFits (new_slots s.desk.me) new
   pub me : new.desk.me ≡ s.desk.me
 
 -- by some answers of its polls it does its part of a step, which is told with the alerts that it makes
@@ -30,5 +30,5 @@ pub record Owns {H : Type 0} (held : H → HoldAt) (exact : Bool) (incoming : In
   pub polls : StepPolls
   pub fit : StepPollsFit exact incoming (holding_at slots holds s) polls
   pub leaves : Leaves exact (owned_in polls incoming (holding_at slots holds s)).last.after slots new_slots holds new_holds s new
-  pub tells : Tells scribe later (part_woven s.desk.me (next_of scribe.outboxes) (owned_in polls incoming (holding_at slots holds s)))
+  pub tells : TellsMore scribe later (part_woven s.desk.me (next_of scribe.outboxes) (owned_in polls incoming (holding_at slots holds s)))
   pub own : KeepsOwn held scribe later

@@ -3,7 +3,7 @@ ghost use Rattle.std.specs.Prelude.{◌≡◌, ◌≤◌, ℕ, OnOk};
 ghost use Rattle.nc_types.specs.Message.{IsContentType};
 ghost use Rattle.nc_journal.specs.declared.alert.AlertLine.TheVariants as lines;
 ghost use Rattle.nc_history.specs.Packets.{packet};
-ghost use Rattle.nc_owner_laws.specs.Fits.{Fits};
+ghost use Rattle.nc_owner_laws.specs.OwnerFits.{OwnerFits};
 ghost use Rattle.nc_worker_state.specs.Incoming.{TakesPacket, Reaps};
 ghost use Rattle.std.specs.List.{AllByRecursion};
 ghost use Rattle.nc_owner.specs.declared.done.Done.{Done as DoneAt};
@@ -12,7 +12,7 @@ ghost use Rattle.nc_owner_laws.specs.Reaping.{steps_woven};
 ghost use Rattle.nc_slots.specs.Slots.{HoldAt};
 ghost use Rattle.nc_outbox.specs.Outboxes.{next_of};
 ghost use Rattle.nc_scribe.specs.Kinds.{AreAside};
-ghost use Rattle.nc_scribe.specs.Scribe.{Tells, KeepsOwn, AllGranted};
+ghost use Rattle.nc_scribe.specs.Scribe.{TellsMore, KeepsOwn, AllGranted};
 ghost use Rattle.nc_owned.specs.Owns.{Owns};
 
 use nc_owner::{Done, Order, Owner};
@@ -31,10 +31,12 @@ pub fn publish<P: Slots>(
     order: Order,
 ) -> Result<(), NoMemory>
     requires me { scribe.old.me ≡ owner.old.desk.me }
-    requires fits { Fits (P.slots pool.old owner.old.desk.me) owner.old }
+    requires fits { OwnerFits (P.slots pool.old owner.old.desk.me) owner.old }
     requires timeout { order.timeout ≤ 1000000000 }
     requires content_type { IsContentType order.content_type }
-    ensures { OnOk result ((n : ℕ) → Owns P.held P.exact (TakesPacket from (packet n (lines.Publish order.r order.chan order.length order.timeout order.content_type order.body))) (P.slots pool.old) (P.slots pool.new) (P.holds pool.old) (P.holds pool.new) owner.old owner.new scribe.old scribe.new) }
+    ensures { OnOk result ((n : ℕ) → Owns P.held P.exact
+        (TakesPacket from (packet n (lines.Publish order.r order.chan order.length order.timeout order.content_type order.body))) (P.slots pool.old)
+        (P.slots pool.new) (P.holds pool.old) (P.holds pool.new) owner.old owner.new scribe.old scribe.new) }
 {
     let done = owner.publish(pool, from, order)?;
     scribe.weave(done)?;
@@ -53,8 +55,9 @@ pub fn look<P: Slots>(
     fence: u64,
 ) -> Result<(), NoMemory>
     requires me { scribe.old.me ≡ owner.old.desk.me }
-    requires fits { Fits (P.slots pool.old owner.old.desk.me) owner.old }
-    ensures { OnOk result ((n : ℕ) → Owns P.held P.exact (TakesPacket from (packet n (lines.Look no c after fence))) (P.slots pool.old) (P.slots pool.new) (P.holds pool.old) (P.holds pool.new) owner.old owner.new scribe.old scribe.new) }
+    requires fits { OwnerFits (P.slots pool.old owner.old.desk.me) owner.old }
+    ensures { OnOk result ((n : ℕ) → Owns P.held P.exact (TakesPacket from (packet n (lines.Look no c after fence))) (P.slots pool.old)
+        (P.slots pool.new) (P.holds pool.old) (P.holds pool.new) owner.old owner.new scribe.old scribe.new) }
 {
     let done = owner.look(pool, from, no, c, after, fence)?;
     scribe.weave(done)?;
@@ -73,8 +76,9 @@ pub fn edge<P: Slots>(
     fence: u64,
 ) -> Result<(), NoMemory>
     requires me { scribe.old.me ≡ owner.old.desk.me }
-    requires fits { Fits (P.slots pool.old owner.old.desk.me) owner.old }
-    ensures { OnOk result ((n : ℕ) → Owns P.held P.exact (TakesPacket from (packet n (lines.Edge no k c fence))) (P.slots pool.old) (P.slots pool.new) (P.holds pool.old) (P.holds pool.new) owner.old owner.new scribe.old scribe.new) }
+    requires fits { OwnerFits (P.slots pool.old owner.old.desk.me) owner.old }
+    ensures { OnOk result ((n : ℕ) → Owns P.held P.exact (TakesPacket from (packet n (lines.Edge no k c fence))) (P.slots pool.old) (P.slots pool.new)
+        (P.holds pool.old) (P.holds pool.new) owner.old owner.new scribe.old scribe.new) }
 {
     let done = owner.edge(pool, from, no, k, c, fence)?;
     scribe.weave(done)?;
@@ -91,8 +95,9 @@ pub fn join<P: Slots>(
     k: u64,
 ) -> Result<(), NoMemory>
     requires me { scribe.old.me ≡ owner.old.desk.me }
-    requires fits { Fits (P.slots pool.old owner.old.desk.me) owner.old }
-    ensures { OnOk result ((n : ℕ) → Owns P.held P.exact (TakesPacket from (packet n (lines.Join c k))) (P.slots pool.old) (P.slots pool.new) (P.holds pool.old) (P.holds pool.new) owner.old owner.new scribe.old scribe.new) }
+    requires fits { OwnerFits (P.slots pool.old owner.old.desk.me) owner.old }
+    ensures { OnOk result ((n : ℕ) → Owns P.held P.exact (TakesPacket from (packet n (lines.Join c k))) (P.slots pool.old) (P.slots pool.new)
+        (P.holds pool.old) (P.holds pool.new) owner.old owner.new scribe.old scribe.new) }
 {
     let done = owner.join(pool, from, c, k)?;
     scribe.weave(done)?;
@@ -109,8 +114,9 @@ pub fn part<P: Slots>(
     k: u64,
 ) -> Result<(), NoMemory>
     requires me { scribe.old.me ≡ owner.old.desk.me }
-    requires fits { Fits (P.slots pool.old owner.old.desk.me) owner.old }
-    ensures { OnOk result ((n : ℕ) → Owns P.held P.exact (TakesPacket from (packet n (lines.Part c k))) (P.slots pool.old) (P.slots pool.new) (P.holds pool.old) (P.holds pool.new) owner.old owner.new scribe.old scribe.new) }
+    requires fits { OwnerFits (P.slots pool.old owner.old.desk.me) owner.old }
+    ensures { OnOk result ((n : ℕ) → Owns P.held P.exact (TakesPacket from (packet n (lines.Part c k))) (P.slots pool.old) (P.slots pool.new)
+        (P.holds pool.old) (P.holds pool.new) owner.old owner.new scribe.old scribe.new) }
 {
     let done = owner.part(pool, from, c, k)?;
     scribe.weave(done)?;
@@ -127,8 +133,9 @@ pub fn delete<P: Slots>(
     c: ChanName,
 ) -> Result<(), NoMemory>
     requires me { scribe.old.me ≡ owner.old.desk.me }
-    requires fits { Fits (P.slots pool.old owner.old.desk.me) owner.old }
-    ensures { OnOk result ((n : ℕ) → Owns P.held P.exact (TakesPacket from (packet n (lines.Delete r c))) (P.slots pool.old) (P.slots pool.new) (P.holds pool.old) (P.holds pool.new) owner.old owner.new scribe.old scribe.new) }
+    requires fits { OwnerFits (P.slots pool.old owner.old.desk.me) owner.old }
+    ensures { OnOk result ((n : ℕ) → Owns P.held P.exact (TakesPacket from (packet n (lines.Delete r c))) (P.slots pool.old) (P.slots pool.new)
+        (P.holds pool.old) (P.holds pool.new) owner.old owner.new scribe.old scribe.new) }
 {
     let done = owner.delete(pool, from, r, c)?;
     scribe.weave(done)?;
@@ -145,8 +152,9 @@ pub fn inform<P: Slots>(
     c: ChanName,
 ) -> Result<(), NoMemory>
     requires me { scribe.old.me ≡ owner.old.desk.me }
-    requires fits { Fits (P.slots pool.old owner.old.desk.me) owner.old }
-    ensures { OnOk result ((n : ℕ) → Owns P.held P.exact (TakesPacket from (packet n (lines.Info r c))) (P.slots pool.old) (P.slots pool.new) (P.holds pool.old) (P.holds pool.new) owner.old owner.new scribe.old scribe.new) }
+    requires fits { OwnerFits (P.slots pool.old owner.old.desk.me) owner.old }
+    ensures { OnOk result ((n : ℕ) → Owns P.held P.exact (TakesPacket from (packet n (lines.Info r c))) (P.slots pool.old) (P.slots pool.new)
+        (P.holds pool.old) (P.holds pool.new) owner.old owner.new scribe.old scribe.new) }
 {
     let done = owner.info(pool, from, r, c)?;
     scribe.weave(done)?;
@@ -156,8 +164,9 @@ pub fn inform<P: Slots>(
 /// Tells what an owner did in some steps, one behind the other, each with the alerts that it made.
 fn weave_all<H: Drop>(scribe: &mut Scribe<H>, steps: List<Done<H>>) -> Result<(), NoMemory>
     requires aside { AllByRecursion (λ (done : DoneAt H). AreAside done.events.events) steps }
-    ensures tells { OnOk result (Tells scribe.old scribe.new (steps_woven scribe.old.me (next_of scribe.old.outboxes) (steps_of steps))) }
-    ensures own { OnOk result ((held : H → HoldAt) → AllByRecursion (λ (done : DoneAt H). AllGranted held scribe.old.me done.alerts) steps → KeepsOwn held scribe.old scribe.new) }
+    ensures tells { OnOk result (TellsMore scribe.old scribe.new (steps_woven scribe.old.me (next_of scribe.old.outboxes) (steps_of steps))) }
+    ensures own { OnOk result ((held : H → HoldAt)
+        → AllByRecursion (λ (done : DoneAt H). AllGranted held scribe.old.me done.alerts) steps → KeepsOwn held scribe.old scribe.new) }
 {
     for done in steps.into_vec() {
         scribe.weave(done)?;
@@ -173,8 +182,9 @@ pub fn sweep<P: Slots>(
     scribe: &mut Scribe<P::Hold>,
 ) -> Result<(), NoMemory>
     requires me { scribe.old.me ≡ owner.old.desk.me }
-    requires fits { Fits (P.slots pool.old owner.old.desk.me) owner.old }
-    ensures { OnOk result (Owns P.held P.exact Reaps (P.slots pool.old) (P.slots pool.new) (P.holds pool.old) (P.holds pool.new) owner.old owner.new scribe.old scribe.new) }
+    requires fits { OwnerFits (P.slots pool.old owner.old.desk.me) owner.old }
+    ensures { OnOk result (Owns P.held P.exact Reaps (P.slots pool.old) (P.slots pool.new) (P.holds pool.old)
+        (P.holds pool.new) owner.old owner.new scribe.old scribe.new) }
 {
     let steps = reap(alloc, owner, pool)?;
     weave_all(scribe, steps)?;

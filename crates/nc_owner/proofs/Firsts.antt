@@ -9,10 +9,10 @@ use Rattle.nc_alert.specs.declared.packet.Outgoing.{Outgoing}
 use Rattle.nc_slots.specs.declared.slot.Slot.{Slot}
 use Rattle.nc_owner.specs.declared.channel.Channel.{Channel}
 use Rattle.nc_owner.specs.declared.desk.Desk.{Desk}
-use Rattle.nc_owner.specs.State.{Bench, OwnerAt, at, entries_of}
+use Rattle.nc_owner.specs.State.{Bench, OwnerAt, bench_from, entries_of}
 use Rattle.nc_owner.specs.AlertLines.{OutLine, out_line, out_lines}
 use Rattle.nc_owner.specs.TouchedLook.{seen_line}
-use Rattle.nc_owner.specs.Leave.{spent}
+use Rattle.nc_owner.specs.Leave.{without_spent}
 use Rattle.nc_owner.specs.Look.{id_of, found_on, found_line}
 use Rattle.nc_owner.specs.Rules.{FindsFirst, founds_of, TellsFirst}
 
@@ -34,18 +34,18 @@ line_founds : (from number : ℕ) (x : Option Entry) (d : Desk) → founds_of (f
 line_founds from number None d = refl
 line_founds from number (Some e) d = refl
 
-pub tells_first : (from number : ℕ) (id : Id) (b : Bench) (lines : List OutLine) → lines ≡ found_line from number (found_on id (spent b)) (spent b).desk ∷ [] → TellsFirst id b lines
+pub tells_first : (from number : ℕ) (id : Id) (b : Bench) (lines : List OutLine) → lines ≡ found_line from number (found_on id (without_spent b)) (without_spent b).desk ∷ [] → TellsFirst id b lines
 tells_first from number id b lines said =
-    (option_map id_of (found_on id (spent b)), ap founds_of said ∙ line_founds from number (found_on id (spent b)) (spent b).desk, finds_first id (entries_of (spent b).channel))
+    (option_map id_of (found_on id (without_spent b)), ap founds_of said ∙ line_founds from number (found_on id (without_spent b)) (without_spent b).desk, finds_first id (entries_of (without_spent b).channel))
 
 -- a look at a channel that was taken out and touched
 pub look_tells : {H : Type 0} → (from number : ℕ) (id : Id) (slots : ℕ → List (Slot Message)) (me : ℕ) (d : Desk) (channels : List (List ℕ × Channel)) (s : OwnerAt) (ch : Channel) (b : Bench) (before alerts : List (Outgoing H)) (out : Outgoing H)
-    → record { desk = d; channels = channels } ≡ s → at s.desk (slots me) ch ≡ b → b.desk.me ≡ me
-    → before ≡ [] → alerts ≡ before ++ out ∷ [] → out_line out ≡ seen_line from number id (at d (slots d.me) ch)
+    → record { desk = d; channels = channels } ≡ s → bench_from s.desk (slots me) ch ≡ b → b.desk.me ≡ me
+    → before ≡ [] → alerts ≡ before ++ out ∷ [] → out_line out ≡ seen_line from number id (bench_from d (slots d.me) ch)
     → TellsFirst id b (out_lines alerts)
 look_tells {H} from number id slots me d channels s ch b before alerts out view bench is_me empty pushed said =
     let same : d ≡ s.desk = ap (λ (x : OwnerAt). x.desk) view in
     let is : d.me ≡ me = ap (λ (x : Desk). x.me) same ∙ (ap (λ (x : Bench). x.desk.me) bench ∙ is_me) in
-    let ready : at d (slots d.me) ch ≡ b = ap (λ (m : ℕ). at d (slots m) ch) is ∙ (ap (λ (x : Desk). at x (slots me) ch) same ∙ bench) in
+    let ready : bench_from d (slots d.me) ch ≡ b = ap (λ (m : ℕ). bench_from d (slots m) ch) is ∙ (ap (λ (x : Desk). bench_from x (slots me) ch) same ∙ bench) in
     tells_first from number id b (out_lines alerts)
     (ap (λ (l : List (Outgoing H)). out_lines l) (pushed ∙ ap (λ (l : List (Outgoing H)). l ++ out ∷ []) empty) ∙ ap (λ (l : OutLine). l ∷ []) (said ∙ ap (λ (x : Bench). seen_line from number id x) ready))

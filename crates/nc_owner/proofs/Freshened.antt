@@ -9,15 +9,15 @@ use Rattle.nc_slots.specs.declared.slot.Slot.{Slot}
 use Rattle.nc_owner.specs.declared.channel.Channel.{Channel}
 use Rattle.nc_owner.specs.declared.desk.Desk.{Desk}
 use Rattle.std.specs.Map.{lookup}
-use Rattle.nc_owner.specs.State.{Bench, OwnerAt, at, entries_of, found, is_name}
-use Rattle.nc_owner.specs.Leave.{stayers, touched, spent}
+use Rattle.nc_owner.specs.State.{Bench, OwnerAt, bench_from, entries_of, found, is_name}
+use Rattle.nc_owner.specs.Leave.{stayers, touched, without_spent}
 use Rattle.nc_owner.specs.Look.{counted_at, found_on, found_desk}
 use Rattle.nc_owner.specs.TouchedLook.{seen}
 use Rattle.nc_owner.specs.Rules.{NoneExpired, IsFresh}
 use Rattle.nc_owner.proofs.Fresh.{stayers_fresh}
 
 -- a channel that was touched
-pub touched_fresh : (d d1 : Desk) (row row1 : List (Slot Message)) (ch ch1 : Channel) → at d1 row1 ch1 ≡ touched (at d row ch) → NoneExpired d1.clock (entries_of ch1)
+pub touched_fresh : (d d1 : Desk) (row row1 : List (Slot Message)) (ch ch1 : Channel) → bench_from d1 row1 ch1 ≡ touched (bench_from d row ch) → NoneExpired d1.clock (entries_of ch1)
 touched_fresh d d1 row row1 ch ch1 bench = subst (λ (y : Bench). NoneExpired y.desk.clock (entries_of y.channel)) (sym bench) (stayers_fresh d.clock (entries_of ch))
 
 -- a channel that was put back, or that isn't there
@@ -62,9 +62,9 @@ found_clock None d = refl
 found_clock (Some e) d = refl
 
 -- a channel at which a look was made
-pub seen_fresh : (from : ℕ) (id : Id) (d d1 : Desk) (row row1 : List (Slot Message)) (ch ch1 : Channel) → at d1 row1 ch1 ≡ seen from id (at d row ch) → NoneExpired d.clock (entries_of ch) → NoneExpired d1.clock (entries_of ch1)
+pub seen_fresh : (from : ℕ) (id : Id) (d d1 : Desk) (row row1 : List (Slot Message)) (ch ch1 : Channel) → bench_from d1 row1 ch1 ≡ seen from id (bench_from d row ch) → NoneExpired d.clock (entries_of ch) → NoneExpired d1.clock (entries_of ch1)
 seen_fresh from id d d1 row row1 ch ch1 bench all =
-    let b = spent (at d row ch) in
+    let b = without_spent (bench_from d row ch) in
     let es = entries_of b.channel in
     let kept : NoneExpired b.desk.clock (counted_at (first_past id es) es) = count_fresh d.clock (first_past id es) es (stay_fresh d.clock is_spent (entries_of ch) all) in
     subst (λ (y : Bench). NoneExpired y.desk.clock (entries_of y.channel)) (sym bench)

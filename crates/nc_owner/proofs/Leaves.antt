@@ -12,7 +12,7 @@ use Rattle.nc_slots.specs.declared.slot.Slot.{Slot}
 use Rattle.nc_owner.specs.declared.channel.Channel.{Channel}
 use Rattle.nc_owner.specs.declared.desk.Desk.{Desk}
 use Rattle.nc_owner.specs.Backlog.{BacklogAt}
-use Rattle.nc_owner.specs.State.{Bench, at, with_entries}
+use Rattle.nc_owner.specs.State.{Bench, bench_from, with_entries}
 use Rattle.nc_owner.specs.Leave.{left_event, left_desk, left_row, left_by, let_go, shed}
 
 sub_suc : (a n : ℕ) → a - suc n ≡ (a - 1) - n
@@ -43,7 +43,7 @@ abbrev pub with_rest : List Entry → BacklogAt → BacklogAt
 with_rest es b = record b { entries = es }
 
 one_go : (test : Entry → Bool) (e : Entry) (d : Desk) (row : List (Slot Message)) (ch : Channel) → find test ch.backlog.entries ≡ Some e
-    → let_go test (left_one e (with_rest (without_first test ch.backlog.entries) ch.backlog) d row ch) ≡ let_go test (at d row ch)
+    → let_go test (left_one e (with_rest (without_first test ch.backlog.entries) ch.backlog) d row ch) ≡ let_go test (bench_from d row ch)
 one_go test e d row ch is =
     let es = ch.backlog.entries in
     let rest = without_first test es in
@@ -57,10 +57,10 @@ one_go test e d row ch is =
 -- an entry that passes the test has left: the others that pass are still to leave
 pub let_go-one : (test : Entry → Bool) (me : ℕ) (before after : ℕ → List (Slot Message)) (e : Entry) (rest : BacklogAt) (d d2 : Desk) (ch : Channel)
     → d.me ≡ me → Some e ≡ find test ch.backlog.entries → rest ≡ with_rest (without_first test ch.backlog.entries) ch.backlog → d2 ≡ left_desk d e → after d.me ≡ left_row (before d.me) e
-    → let_go test (at d2 (after me) (record ch { backlog = rest })) ≡ let_go test (at d (before me) ch)
+    → let_go test (bench_from d2 (after me) (record ch { backlog = rest })) ≡ let_go test (bench_from d (before me) ch)
 let_go-one test me before after e rest d d2 ch is_me is kept desk row =
-    subst (λ (m : ℕ). let_go test (at d2 (after m) (record ch { backlog = rest })) ≡ let_go test (at d (before m) ch)) is_me
-    ((λ i. let_go test (at (desk i) (row i) (record ch { backlog = kept i }))) ∙ one_go test e d (before d.me) ch (sym is))
+    subst (λ (m : ℕ). let_go test (bench_from d2 (after m) (record ch { backlog = rest })) ≡ let_go test (bench_from d (before m) ch)) is_me
+    ((λ i. let_go test (bench_from (desk i) (row i) (record ch { backlog = kept i }))) ∙ one_go test e d (before d.me) ch (sym is))
 
 pub let_go_events-one : (test : Entry → Bool) (cause : LeftCause) (c : List ℕ) (me old : ℕ) (e : Entry) (rest b : BacklogAt) (events later all : List Event)
     → old ≡ me → Some e ≡ find test b.entries → rest ≡ with_rest (without_first test b.entries) b → later ≡ events ++ left_event old c cause e ∷ []
@@ -77,7 +77,7 @@ let_go_events-one test cause c me old e rest b events later all is_me is kept pu
 -- nothing passes the test
 pub let_go-none : (test : Entry → Bool) (rest : BacklogAt) (d : Desk) (row : List (Slot Message)) (ch : Channel)
     → None ≡ find test ch.backlog.entries → rest ≡ with_rest (without_first test ch.backlog.entries) ch.backlog
-    → let_go test (at d row ch) ≡ at d row (record ch { backlog = rest })
+    → let_go test (bench_from d row ch) ≡ bench_from d row (record ch { backlog = rest })
 let_go-none test rest d row ch is kept =
     let es = ch.backlog.entries in
     let t = takes-one test es in
@@ -95,7 +95,7 @@ let_go_events-none test cause c me es events all is whole =
 
 -- the oldest entry has left, and one fewer is still to leave
 one_sheds : (n : ℕ) (e : Entry) (es : List Entry) (d : Desk) (row : List (Slot Message)) (ch : Channel) → oldest es ≡ Some e
-    → shed n (left_one e (with_rest (without_oldest es) ch.backlog) d row ch) ≡ shed (suc n) (at d row (with_entries es ch))
+    → shed n (left_one e (with_rest (without_oldest es) ch.backlog) d row ch) ≡ shed (suc n) (bench_from d row (with_entries es ch))
 one_sheds n e [] d row ch is = absurd cc
 one_sheds n e (x ∷ es) d row ch is =
     let same : e ≡ x = cc in
@@ -110,12 +110,12 @@ one_less n some = omega arith
 
 pub shed-one : (n : ℕ) (me : ℕ) (before after : ℕ → List (Slot Message)) (e : Entry) (rest : BacklogAt) (d d2 : Desk) (ch : Channel)
     → 0 < n → d.me ≡ me → Some e ≡ oldest ch.backlog.entries → rest ≡ with_rest (without_oldest ch.backlog.entries) ch.backlog → d2 ≡ left_desk d e → after d.me ≡ left_row (before d.me) e
-    → shed (n - 1) (at d2 (after me) (record ch { backlog = rest })) ≡ shed n (at d (before me) ch)
+    → shed (n - 1) (bench_from d2 (after me) (record ch { backlog = rest })) ≡ shed n (bench_from d (before me) ch)
 shed-one n me before after e rest d d2 ch some is_me is kept desk row =
-    subst (λ (m : ℕ). shed (n - 1) (at d2 (after m) (record ch { backlog = rest })) ≡ shed n (at d (before m) ch)) is_me
-    ((λ i. shed (n - 1) (at (desk i) (row i) (record ch { backlog = kept i })))
+    subst (λ (m : ℕ). shed (n - 1) (bench_from d2 (after m) (record ch { backlog = rest })) ≡ shed n (bench_from d (before m) ch)) is_me
+    ((λ i. shed (n - 1) (bench_from (desk i) (row i) (record ch { backlog = kept i })))
     ∙ (one_sheds (n - 1) e ch.backlog.entries d (before d.me) ch (sym is)
-    ∙ ap (λ (k : ℕ). shed k (at d (before d.me) ch)) (sym (one_less n some))))
+    ∙ ap (λ (k : ℕ). shed k (bench_from d (before d.me) ch)) (sym (one_less n some))))
 
 oldest_first : (n : ℕ) (e : Entry) (es : List Entry) → oldest es ≡ Some e → take (suc n) es ≡ e ∷ take n (without_oldest es)
 oldest_first n e [] is = absurd cc
@@ -147,7 +147,7 @@ drop_none (suc n) (e ∷ es) is = absurd cc
 -- no entry is there any more
 pub shed-none : (n : ℕ) (rest : BacklogAt) (d : Desk) (row : List (Slot Message)) (ch : Channel)
     → None ≡ oldest ch.backlog.entries → rest ≡ with_rest (without_oldest ch.backlog.entries) ch.backlog
-    → shed n (at d row ch) ≡ at d row (record ch { backlog = rest })
+    → shed n (bench_from d row ch) ≡ bench_from d row (record ch { backlog = rest })
 shed-none n rest d row ch is kept =
     let none = take_none n ch.backlog.entries (sym is) in
     λ i. record {
@@ -174,7 +174,7 @@ shed_events-end n cause c me es events all is whole =
 pub all_of : (n : ℕ) (es : List Entry) → n ≡ length es → take n es ≡ es
 all_of n es is = ap (λ (k : ℕ). take k es) is ∙ take_all (length es) es (le_refl (length es))
 
-pub shed-all : (n : ℕ) (d d2 : Desk) (row row2 : List (Slot Message)) (ch ch2 : Channel) → n ≡ length ch.backlog.entries → at d2 row2 ch2 ≡ shed n (at d row ch)
+pub shed-all : (n : ℕ) (d d2 : Desk) (row row2 : List (Slot Message)) (ch ch2 : Channel) → n ≡ length ch.backlog.entries → bench_from d2 row2 ch2 ≡ shed n (bench_from d row ch)
     → (d2 ≡ left_by ch.backlog.entries d) × (row2 ≡ fold left_row row ch.backlog.entries)
 shed-all n d d2 row row2 ch ch2 is bench =
     let all = all_of n ch.backlog.entries is in (

@@ -16,7 +16,7 @@ use Rattle.nc_owner.specs.declared.poll.PollAnswer.{PollAnswer}
 use Rattle.nc_owner.specs.Leave.{left_event, leavers, touch_events}
 use Rattle.nc_owner.specs.Poll.{freed_event, free_slots, freed_events}
 use Rattle.nc_owner.specs.State.{Bench, OwnerAt, bench_of}
-use Rattle.nc_owner.specs.Publish.{Polls, Outcome, late, full, stored, asked, cleared_events, granted_events, granted_slot, kept_row, leaving, lowest_slot, message_of, roomy, roomy_events, stamp, store_bench, store_events, stored_event, stored_events, told_row, post_bench, post_events, publish_events, publish_outcome, publish_cleared, publish_row, is_stored}
+use Rattle.nc_owner.specs.Publish.{Polls, Outcome, late, full, stored, asked, cleared_events, granted_events, granted_slot, kept_row, leaving, lowest_slot, message_of_order, roomy, roomy_events, stamp, store_bench, store_events, stored_event, stored_events, told_row, post_bench, post_events, publish_events, publish_outcome, publish_cleared, publish_row, is_stored}
 use Rattle.nc_owner.specs.PublishClauses.{HasRoom, TakesSlot}
 use Rattle.nc_owner.specs.Rules.{IsLowest, TakesLowest}
 
@@ -102,8 +102,8 @@ store_lowest from o left b taken =
     let r = roomy o.length left b in
     let row = (store_bench o left b).row in
     let lowest : IsLowest row (stored_event from o (stamp r) (lowest_slot r.row) (length r.channel.members) r.desk) = (
-      subst (λ (n : ℕ). lowest_slot r.row < n) (sym (stored_length (not (o.length == 0)) (message_of (stamp r) o r.desk.clock) r.row (lowest_slot r.row) r.channel.marks)) (taken_within r taken),
-      λ j lt. ap is_unused (stored_same (not (o.length == 0)) (message_of (stamp r) o r.desk.clock) r.row (lowest_slot r.row) j r.channel.marks lt) ∙ lowest_below r.row j lt,
+      subst (λ (n : ℕ). lowest_slot r.row < n) (sym (stored_length (not (o.length == 0)) (message_of_order (stamp r) o r.desk.clock) r.row (lowest_slot r.row) r.channel.marks)) (taken_within r taken),
+      λ j lt. ap is_unused (stored_same (not (o.length == 0)) (message_of_order (stamp r) o r.desk.clock) r.row (lowest_slot r.row) j r.channel.marks lt) ∙ lowest_below r.row j lt,
     ) in
     let tail : TakesLowest row (stored_events from o (lowest_slot r.row) r) = (lowest, grants row r.desk.me (lowest_slot r.row) r.desk.grants r.channel.marks) in
     all_append (IsLowest row) (roomy_events o.length left o.chan b) (stored_events from o (lowest_slot r.row) r)

@@ -2,6 +2,7 @@
 use Rattle.std.proofs.Common.{◌≡◌, ℕ, List, [], ◌∷◌, ◌++◌, Bool, true, false, refl, sym, ap, ◌∙◌, subst, map, Some, None}
 use Rattle.std.proofs.lemmas.List.{append-nil}
 use Rattle.std.specs.Prelude.{nat_le}
+use Rattle.nc_types.specs.Id.{last_second}
 use Rattle.nc_types.specs.declared.info.FullLine.{FullLine}
 use Rattle.nc_journal.specs.declared.event.Event.{Event}
 use Rattle.nc_owner.specs.declared.order.Order.{Order}
@@ -31,7 +32,7 @@ posted_by exact from o polls b counts done before events lines bench new_counts 
 }
 
 pub late_posts : (exact : Bool) (from : ℕ) (o : Order) (first : List PollAnswer) (b : Bench) (counts : List ℕ) (done : Bool) (before events : List Event) (lines : List OutLine)
-    → nat_le (stamp b).time 253402300799 ≡ false → done ≡ false → events ≡ before → lines ≡ answer from o.r 503 None None ∷ []
+    → nat_le (stamp b).time last_second ≡ false → done ≡ false → events ≡ before → lines ≡ answer from o.r 503 None None ∷ []
     → Posts exact from o first b counts done before events lines b counts
 late_posts exact from o first b counts done before events lines is d e a =
     let slots = slots_of (leaving o.length b) in
@@ -50,7 +51,7 @@ late_posts exact from o first b counts done before events lines is d e a =
     )
 
 pub full_posts : (exact : Bool) (from : ℕ) (o : Order) (first asked_answers : List PollAnswer) (b : Bench) (counts new_counts : List ℕ) (done : Bool) (before events : List Event) (lines : List OutLine) (usage : FullLine) (bench : Bench)
-    → nat_le (stamp b).time 253402300799 ≡ true → usage ≡ usage_of o.length (record { retired = first; leaving = asked_answers; left = [] }) b → is_full b.desk.slots usage ≡ true
+    → nat_le (stamp b).time last_second ≡ true → usage ≡ usage_of o.length (record { retired = first; leaving = asked_answers; left = [] }) b → is_full b.desk.slots usage ≡ true
     → PollsOf exact counts (slots_of (leaving o.length b)) asked_answers → AnswersFit b.row asked_answers → bench ≡ asked asked_answers b → (exact ≡ true → new_counts ≡ counts)
     → done ≡ false → events ≡ before → lines ≡ answer from o.r 507 None (Some usage) ∷ []
     → Posts exact from o first b counts done before events lines bench new_counts
@@ -67,7 +68,7 @@ full_posts exact from o first asked_answers b counts new_counts done before even
     )
 
 pub stored_posts : (exact : Bool) (from : ℕ) (o : Order) (first asked_answers left : List PollAnswer) (b b2 : Bench) (counts new_counts : List ℕ) (done : Bool) (before events : List Event) (lines : List OutLine) (usage : FullLine) (bench : Bench)
-    → nat_le (stamp b).time 253402300799 ≡ true → usage ≡ usage_of o.length (record { retired = first; leaving = asked_answers; left = [] }) b → is_full b.desk.slots usage ≡ false
+    → nat_le (stamp b).time last_second ≡ true → usage ≡ usage_of o.length (record { retired = first; leaving = asked_answers; left = [] }) b → is_full b.desk.slots usage ≡ false
     → PollsOf exact counts (slots_of (leaving o.length b)) asked_answers → AnswersFit b.row asked_answers → PollsOf exact counts (ascending (slots_of (leaving o.length b))) left → AnswersFit (left_slots o.length b2) left → b2 ≡ asked asked_answers b
     → TakesSlot (roomy o.length left b2) → done ≡ true → events ≡ before ++ store_events from o left b2 → lines ≡ store_alerts from o left b2 → bench ≡ store_bench o left b2 → (exact ≡ true → new_counts ≡ store_holds o left b2 counts)
     → Posts exact from o first b counts done before events lines bench new_counts

@@ -2,7 +2,7 @@
 use Rattle.std.proofs.Common.{◌≡◌, ◌↔◌, ◌⊎◌, inl, inr, cond, ℕ, ◌+◌, ◌<◌, ◌≤◌, Bool, true, false, List, [], ◌∷◌, ◌++◌, refl, sym, ap, ◌∙◌, subst, map, length, arith}
 use Rattle.std.proofs.lemmas.Bool.Decides.{nat_tests}
 use Rattle.std.specs.Prelude.{fold, nat_le, ◌==◌, not, if◌then◌else◌, slice_index, unwrap_or}
-use Rattle.nc_types.specs.Id.{Id}
+use Rattle.nc_types.specs.Id.{Id, last_second}
 use Rattle.nc_types.specs.Message.{Message}
 use Rattle.nc_types.specs.declared.info.FullLine.{FullLine}
 use Rattle.nc_journal.specs.declared.event.Event.{Event}
@@ -54,8 +54,8 @@ no_such : (ch : Channel) (k : ℕ) → (k < 201) ⊎ (202 < k) → answer_to sto
 no_such ch k (inl low) is = let r = stored_between (length ch.members == 0) k (ap status_in is) in omega (arith, r.0, low)
 no_such ch k (inr high) is = let r = stored_between (length ch.members == 0) k (ap status_in is) in omega (arith, r.1, high)
 
-late_by : (fits no_slot : Bool) (usage : FullLine) (ch : Channel) (time : ℕ) → nat_le time 253402300799 ≡ fits
-    → (answer_to (outcome_by fits no_slot usage) ch ≡ with_status 503) ↔ (253402300799 < time)
+late_by : (fits no_slot : Bool) (usage : FullLine) (ch : Channel) (time : ℕ) → nat_le time last_second ≡ fits
+    → (answer_to (outcome_by fits no_slot usage) ch ≡ with_status 503) ↔ (last_second < time)
 late_by false no_slot usage ch time is = (λ _. grind (arith, nat_tests), λ _. refl)
 late_by true true usage ch time is = (λ h. let e : 507 ≡ 503 = ap status_in h in absurd (omega arith), λ lt. absurd (grind (arith, nat_tests)))
 late_by true false usage ch time is = (λ h. absurd (no_such ch 503 (inr (omega arith)) h), λ lt. absurd (grind (arith, nat_tests)))
@@ -83,7 +83,7 @@ four late ch = inr (inr (inl refl))
 four (full usage) ch = inr (inr (inr (usage, refl)))
 four stored ch = four_by (length ch.members == 0)
 
-fits_time : (time : ℕ) → time ≤ 253402300799 → nat_le time 253402300799 ≡ true
+fits_time : (time : ℕ) → time ≤ last_second → nat_le time last_second ≡ true
 fits_time time le = grind (arith, nat_tests)
 
 held_from : (counts : List ℕ) (n : ℕ) (slots : List ℕ)
@@ -132,7 +132,7 @@ module _ (from : ℕ) (o : Order) (polls : Polls) (row : List (Slot Message)) (s
   pub is_late_exactly : IsLateExactly o row s lines
   is_late_exactly =
       let b = publish_cleared o polls row s in
-      let r = late_by (nat_le (stamp b).time 253402300799) (is_full b.desk.slots (usage_of o.length polls b)) (usage_of o.length polls b) (opened o.chan s) (stamp b).time refl in
+      let r = late_by (nat_le (stamp b).time last_second) (is_full b.desk.slots (usage_of o.length polls b)) (usage_of o.length polls b) (opened o.chan s) (stamp b).time refl in
       (λ h. r.0 (sym answered ∙ h), λ lt. answered ∙ r.1 lt)
 
   pub is_full_exactly : (counts : List ℕ) → PublishPolls true counts o row s polls → IsFullExactly counts o row s lines

@@ -16,8 +16,8 @@ use Rattle.nc_owner.specs.AlertLines.{OutLine}
 use Rattle.nc_owner.specs.Poll.{PollsOf, AnswersFit}
 use Rattle.nc_owner.specs.PublishClauses.{IsPosted, Posts, Publishes}
 use Rattle.nc_owner.specs.Rules.{NoneExpired, IsFresh}
-use Rattle.nc_owner.specs.State.{Bench, OwnerAt, at, entries_of, found, opened, exists, others, put_back, bench_of}
-use Rattle.nc_owner.specs.Publish.{LeavingPolls, cleared, cleared_events, is_stored, post_events, post_holds, publish_outcome, publish_bench, publish_cleared, message_of, outcome, stamp}
+use Rattle.nc_owner.specs.State.{Bench, OwnerAt, bench_from, entries_of, found, opened, exists, others, put_back, bench_of}
+use Rattle.nc_owner.specs.Publish.{LeavingPolls, cleared, cleared_events, is_stored, post_events, post_holds, publish_outcome, publish_bench, publish_cleared, message_of_order, outcome, stamp}
 use Rattle.nc_owner.proofs.Fresh.{stayers_fresh, publish_fresh}
 use Rattle.nc_owner.proofs.Polls.{polls_again}
 
@@ -28,12 +28,12 @@ pub record Parts (exact : Bool) (from me : ℕ) (o : Order) (row : List (Slot Me
   pub is_channel : ch ≡ opened o.chan s
   pub was : existed ≡ exists o.chan s
   pub is_rest : rest ≡ others o.chan s.channels
-  pub clear_events : events1 ≡ before ++ cleared_events first o.chan (at s.desk row ch)
-  pub clear_bench : at d1 (slots1 me) ch1 ≡ cleared first (at s.desk row ch)
-  pub clear_polls : PollsOf exact counts (touched (at s.desk row ch)).desk.retired first
-  pub clear_fit : AnswersFit (touched (at s.desk row ch)).row first
+  pub clear_events : events1 ≡ before ++ cleared_events first o.chan (bench_from s.desk row ch)
+  pub clear_bench : bench_from d1 (slots1 me) ch1 ≡ cleared first (bench_from s.desk row ch)
+  pub clear_polls : PollsOf exact counts (touched (bench_from s.desk row ch)).desk.retired first
+  pub clear_fit : AnswersFit (touched (bench_from s.desk row ch)).row first
   pub clear_holds : exact ≡ true → holds1 me ≡ counts
-  pub posts : Posts exact from o first (at d1 (slots1 d1.me) ch1) (holds1 d1.me) done events1 events2 lines (at d2 (slots2 d1.me) ch2) (holds2 d1.me)
+  pub posts : Posts exact from o first (bench_from d1 (slots1 d1.me) ch1) (holds1 d1.me) done events1 events2 lines (bench_from d2 (slots2 d1.me) ch2) (holds2 d1.me)
   pub is_stays : stays ≡ (existed || done)
   pub back : chs2 ≡ put_back o.chan stays ch2 rest
 
@@ -42,12 +42,12 @@ pub published_by : (exact : Bool) (from me : ℕ) (o : Order) (row : List (Slot 
     → Publishes exact from o row s counts events2 lines (slots2 me) (record { desk = d2; channels = chs2 }) (holds2 me)
 published_by exact from me o row s counts first done existed stays slots1 slots2 holds1 holds2 d1 d2 ch ch1 ch2 before events1 events2 lines rest chs2 p =
     let bb = bench_of o.chan row s in
-    let eb : at s.desk row ch ≡ bb = ap (λ (x : Channel). at s.desk row x) p.is_channel in
-    let e1 : at d1 (slots1 me) ch1 ≡ cleared first bb = p.clear_bench ∙ ap (λ (x : Bench). cleared first x) eb in
+    let eb : bench_from s.desk row ch ≡ bb = ap (λ (x : Channel). bench_from s.desk row x) p.is_channel in
+    let e1 : bench_from d1 (slots1 me) ch1 ≡ cleared first bb = p.clear_bench ∙ ap (λ (x : Bench). cleared first x) eb in
     let em : d1.me ≡ me = ap (λ (x : Bench). x.desk.me) e1 ∙ p.is_me in
-    let after = at d2 (slots2 me) ch2 in
-    let p1 : Posts exact from o first (at d1 (slots1 me) ch1) (holds1 me) done events1 events2 lines after (holds2 me) =
-    subst (λ (m : ℕ). Posts exact from o first (at d1 (slots1 m) ch1) (holds1 m) done events1 events2 lines (at d2 (slots2 m) ch2) (holds2 m)) em p.posts in
+    let after = bench_from d2 (slots2 me) ch2 in
+    let p1 : Posts exact from o first (bench_from d1 (slots1 me) ch1) (holds1 me) done events1 events2 lines after (holds2 me) =
+    subst (λ (m : ℕ). Posts exact from o first (bench_from d1 (slots1 m) ch1) (holds1 m) done events1 events2 lines (bench_from d2 (slots2 m) ch2) (holds2 m)) em p.posts in
     let p2 : Posts exact from o first (cleared first bb) (holds1 me) done events1 events2 lines after (holds2 me) =
     subst (λ (x : Bench). Posts exact from o first x (holds1 me) done events1 events2 lines after (holds2 me)) e1 p1 in
     let polls = p2.0 in
@@ -62,7 +62,7 @@ published_by exact from me o row s counts first done existed stays slots1 slots2
     let first_fit : AnswersFit (touched bb).row polls.retired =
     subst (λ (a : List PollAnswer). AnswersFit (touched bb).row a) f (subst (λ (x : Bench). AnswersFit (touched x).row first) eb p.clear_fit) in
     let ev : events1 ≡ cleared_events polls.retired o.chan bb =
-    p.clear_events ∙ (ap (λ (l : List Event). l ++ cleared_events first o.chan (at s.desk row ch)) p.none
+    p.clear_events ∙ (ap (λ (l : List Event). l ++ cleared_events first o.chan (bench_from s.desk row ch)) p.none
     ∙ (ap (λ (x : Bench). cleared_events first o.chan x) eb ∙ ap (λ (a : List PollAnswer). cleared_events a o.chan bb) f)) in
     let chs : chs2 ≡ put_back o.chan (exists o.chan s || is_stored (publish_outcome o polls row s)) (publish_bench o polls row s).channel (others o.chan s.channels) =
     p.back ∙ (λ i. put_back o.chan ((p.is_stays ∙ λ j. (p.was j || ip.kind j)) i) ((ap (λ (x : Bench). x.channel) ip.after_post) i) (p.is_rest i)) in (
@@ -80,20 +80,20 @@ published_by exact from me o row s counts first done existed stays slots1 slots2
 
 -- the holds that a publish grants are of its message
 pub carried_by : {H : Type 0} (held : H → HoldAt) (o : Order) (row : List (Slot Message)) (s : OwnerAt) (first : List PollAnswer) (slots1 : ℕ → List (Slot Message)) (d1 : Desk) (ch ch1 : Channel) (alerts : List (Outgoing H))
-    → ch ≡ opened o.chan s → at d1 (slots1 s.desk.me) ch1 ≡ cleared first (at s.desk row ch)
-    → AllCarry held d1.me (message_of (stamp (at d1 (slots1 d1.me) ch1)) o d1.clock) alerts
-    → AllCarry held s.desk.me (message_of (stamp (bench_of o.chan row s)) o s.desk.clock) alerts
+    → ch ≡ opened o.chan s → bench_from d1 (slots1 s.desk.me) ch1 ≡ cleared first (bench_from s.desk row ch)
+    → AllCarry held d1.me (message_of_order (stamp (bench_from d1 (slots1 d1.me) ch1)) o d1.clock) alerts
+    → AllCarry held s.desk.me (message_of_order (stamp (bench_of o.chan row s)) o s.desk.clock) alerts
 carried_by held o row s first slots1 d1 ch ch1 alerts is_channel bench carried =
-    subst (λ (x : Channel). AllCarry held s.desk.me (message_of (stamp (at s.desk row x)) o s.desk.clock) alerts) is_channel
-    (subst (λ (x : Bench). AllCarry held x.desk.me (message_of (stamp x) o x.desk.clock) alerts) bench carried)
+    subst (λ (x : Channel). AllCarry held s.desk.me (message_of_order (stamp (bench_from s.desk row x)) o s.desk.clock) alerts) is_channel
+    (subst (λ (x : Bench). AllCarry held x.desk.me (message_of_order (stamp x) o x.desk.clock) alerts) bench carried)
 
 -- no entry of the channel has expired after a publish
 pub fresh_by : (exact : Bool) (from me : ℕ) (o : Order) (row : List (Slot Message)) (d : Desk) (first : List PollAnswer) (done stays : Bool) (slots1 slots2 : ℕ → List (Slot Message)) (holds1 holds2 : ℕ → List ℕ) (d1 d2 : Desk) (ch ch1 ch2 : Channel) (events1 events2 : List Event) (lines : List OutLine) (chs2 : List (List ℕ × Channel))
-    → at d1 (slots1 me) ch1 ≡ cleared first (at d row ch)
-    → Posts exact from o first (at d1 (slots1 d1.me) ch1) (holds1 d1.me) done events1 events2 lines (at d2 (slots2 d1.me) ch2) (holds2 d1.me)
+    → bench_from d1 (slots1 me) ch1 ≡ cleared first (bench_from d row ch)
+    → Posts exact from o first (bench_from d1 (slots1 d1.me) ch1) (holds1 d1.me) done events1 events2 lines (bench_from d2 (slots2 d1.me) ch2) (holds2 d1.me)
     → found o.chan (record { desk = d2; channels = chs2 }) ≡ (if stays then Some ch2 else None)
     → IsFresh o.chan (record { desk = d2; channels = chs2 })
 fresh_by exact from me o row d first done stays slots1 slots2 holds1 holds2 d1 d2 ch ch1 ch2 events1 events2 lines chs2 bench posts at_name =
-    let b1 = at d1 (slots1 d1.me) ch1 in
+    let b1 = bench_from d1 (slots1 d1.me) ch1 in
     let all : NoneExpired d1.clock (entries_of ch1) = subst (λ (y : Bench). NoneExpired y.desk.clock (entries_of y.channel)) (sym bench) (stayers_fresh d.clock (entries_of ch)) in
-    publish_fresh o.chan o posts.0 (outcome o.length posts.0 b1) b1 (at d2 (slots2 d1.me) ch2) chs2 stays all posts.3.after_post at_name
+    publish_fresh o.chan o posts.0 (outcome o.length posts.0 b1) b1 (bench_from d2 (slots2 d1.me) ch2) chs2 stays all posts.3.after_post at_name

@@ -58,8 +58,8 @@ touched b = let_go (is_expired b.desk.clock) b
 abbrev pub spend_events : List ℕ → Bench → List Event
 spend_events c b = let_go_events Spent is_spent c b
 
-abbrev pub spent : Bench → Bench
-spent b = let_go is_spent b
+abbrev pub without_spent : Bench → Bench
+without_spent b = let_go is_spent b
 
 -- so many of the oldest entries leave
 abbrev pub shed_events : LeftCause → ℕ → List ℕ → Bench → List Event

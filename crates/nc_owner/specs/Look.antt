@@ -14,7 +14,7 @@ use Rattle.nc_owner.specs.declared.desk.Desk.{Desk}
 use Rattle.nc_owner.specs.Ascending.{with_new_number}
 use Rattle.nc_owner.specs.State.{OwnerAt, Bench, entries_of, with_entries, bench_of, after}
 use Rattle.nc_owner.specs.AlertLines.{OutLine}
-use Rattle.nc_owner.specs.Leave.{touch_events, touched, spend_events, spent}
+use Rattle.nc_owner.specs.Leave.{touch_events, touched, spend_events, without_spent}
 use Rattle.nc_owner.specs.Publish.{granted_slot, one_hold}
 
 -- the first entry past the id, on a bench that was touched and from which spent entries left
@@ -69,7 +69,7 @@ answered from id b = record {
 
 -- the whole step
 abbrev pub look_ready : List ℕ → List (Slot Message) → OwnerAt → Bench
-look_ready c row s = spent (touched (bench_of c row s))
+look_ready c row s = without_spent (touched (bench_of c row s))
 
 abbrev pub look_events : ℕ → ℕ → List ℕ → Id → List (Slot Message) → OwnerAt → List Event
 look_events from number c id row s =

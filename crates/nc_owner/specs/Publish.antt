@@ -1,6 +1,6 @@
 -- What a publish does: its events, its alerts, and the owner and its slots after it.
 use Rattle.std.specs.Prelude.{◌≡◌, ℕ, ◌+◌, ◌-◌, Bool, true, false, not, ◌||◌, List, [], ◌∷◌, ◌++◌, Option, None, Some, if◌then◌else◌, nat_le, ◌==◌, map, fold, length, max, take, drop, slice_set, slice_index, unwrap_or}
-use Rattle.nc_types.specs.Id.{Id}
+use Rattle.nc_types.specs.Id.{Id, last_second}
 use Rattle.nc_types.specs.Message.{Message}
 use Rattle.nc_types.specs.declared.info.FullLine.{FullLine}
 use Rattle.nc_types.specs.declared.info.Info.{Info}
@@ -85,7 +85,7 @@ outcome_by true false usage = stored
 
 -- what it comes to, once the channel is cleared
 abbrev pub outcome : ℕ → Polls → Bench → Outcome
-outcome len polls b = outcome_by (nat_le (stamp b).time 253402300799) (is_full b.desk.slots (usage_of len polls b)) (usage_of len polls b)
+outcome len polls b = outcome_by (nat_le (stamp b).time last_second) (is_full b.desk.slots (usage_of len polls b)) (usage_of len polls b)
 
 -- the slots of the leaving entries are polled
 abbrev pub asked : List PollAnswer → Bench → Bench
@@ -107,8 +107,8 @@ abbrev pub lowest_slot : List (Slot Message) → ℕ
 lowest_slot row = unwrap_or (lowest_unused row) 0
 
 -- the message of an order
-abbrev pub message_of : Id → Order → ℕ → Message
-message_of id o now = record { id = id; body = o.body; content_type = o.content_type; expires = expiry now o.timeout }
+abbrev pub message_of_order : Id → Order → ℕ → Message
+message_of_order id o now = record { id = id; body = o.body; content_type = o.content_type; expires = expiry now o.timeout }
 
 abbrev pub stored_event : ℕ → Order → Id → ℕ → ℕ → Desk → Event
 stored_event from o id slot members d =
@@ -166,7 +166,7 @@ stored_bench o slot b =
     let id = stamp b in
     record {
       desk = record (kept_desk kept slot (granted_desk b.channel.marks b.desk)) { floor = max b.desk.floor id.time };
-      row = kept_row kept slot (told_row (message_of id o b.desk.clock) slot b.channel.marks b.row);
+      row = kept_row kept slot (told_row (message_of_order id o b.desk.clock) slot b.channel.marks b.row);
       channel = kept_channel kept (entry_of o id slot b.desk.clock (length b.channel.marks)) b.channel;
     }
 

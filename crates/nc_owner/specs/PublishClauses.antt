@@ -12,7 +12,7 @@ use Rattle.nc_owner.specs.Holds.{AllCarry}
 use Rattle.nc_owner.specs.State.{OwnerAt, Bench}
 use Rattle.nc_owner.specs.AlertLines.{OutLine, out_lines}
 use Rattle.nc_owner.specs.Pool.{SameOthers}
-use Rattle.nc_owner.specs.Publish.{store_events, store_alerts, store_bench, store_holds, message_of, stamp, Polls, LeavingPolls, PublishPolls, IsPublished, outcome, is_stored, post_events, post_alerts, post_bench, post_holds, publish_holds, asked, roomy, lowest_slot, publish_outcome, publish_cleared}
+use Rattle.nc_owner.specs.Publish.{store_events, store_alerts, store_bench, store_holds, message_of_order, stamp, Polls, LeavingPolls, PublishPolls, IsPublished, outcome, is_stored, post_events, post_alerts, post_bench, post_holds, publish_holds, asked, roomy, lowest_slot, publish_outcome, publish_cleared}
 
 -- there is an unused slot, and the message takes the lowest
 abbrev pub TakesSlot : Bench → Type 0
@@ -25,7 +25,7 @@ pub record IsStored {H : Type 0} (hold_of : H → HoldAt) (exact : Bool) (from m
   pub said : out_lines alerts ≡ store_alerts from o left b
   pub after_store : bench ≡ store_bench o left b
   pub taken : TakesSlot (roomy o.length left b)
-  pub carried : AllCarry hold_of me (message_of (stamp b) o b.desk.clock) alerts
+  pub carried : AllCarry hold_of me (message_of_order (stamp b) o b.desk.clock) alerts
   pub others : SameOthers me slots new_slots
   pub counts : exact ≡ true → new_holds me ≡ store_holds o left b (holds me)
   pub other_counts : exact ≡ true → SameOthers me holds new_holds
@@ -40,16 +40,20 @@ pub record IsPosted (exact : Bool) (from : ℕ) (o : Order) (polls : Polls) (b :
   pub taken : done ≡ true → TakesSlot (roomy o.length polls.left (asked polls.leaving b))
 
 -- there are such answers, of which the first ones are known
-abbrev pub Posts : Bool → ℕ → Order → List PollAnswer → Bench → List ℕ → Bool → List Event → List Event → List OutLine → Bench → List ℕ → Type 0
+abbrev pub Posts : Bool → ℕ → Order → List PollAnswer → Bench → List ℕ → Bool → List Event → List Event → List OutLine → Bench
+    → List ℕ → Type 0
 Posts exact from o first b counts done before events lines bench new_counts =
-    (polls : Polls) × (polls.retired ≡ first) × LeavingPolls exact counts o.length b polls × IsPosted exact from o polls b counts done before events lines bench new_counts
+    (polls : Polls) × (polls.retired ≡ first) × LeavingPolls exact counts o.length b polls
+    × IsPosted exact from o polls b counts done before events lines bench new_counts
 
 -- where a publish stores a message, there is room for it
 abbrev pub HasRoom : Order → Polls → List (Slot Message) → OwnerAt → Type 0
-HasRoom o polls row s = is_stored (publish_outcome o polls row s) ≡ true → TakesSlot (roomy o.length polls.left (asked polls.leaving (publish_cleared o polls row s)))
+HasRoom o polls row s = is_stored (publish_outcome o polls row s) ≡ true
+    → TakesSlot (roomy o.length polls.left (asked polls.leaving (publish_cleared o polls row s)))
 
 -- there are answers of its polls by which a publish does this
-abbrev pub Publishes : Bool → ℕ → Order → List (Slot Message) → OwnerAt → List ℕ → List Event → List OutLine → List (Slot Message) → OwnerAt → List ℕ → Type 0
+abbrev pub Publishes : Bool → ℕ → Order → List (Slot Message) → OwnerAt → List ℕ → List Event → List OutLine → List (Slot Message)
+    → OwnerAt → List ℕ → Type 0
 Publishes exact from o row s counts events lines new_row new new_counts =
     (polls : Polls)
     × PublishPolls exact counts o row s polls

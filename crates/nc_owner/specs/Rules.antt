@@ -1,7 +1,7 @@
 -- The owner's rules in their own words: what each says of a call's events, its answer, and the owner and its slots.
 use Rattle.std.specs.Prelude.{◌≡◌, ◌↔◌, ◌⊎◌, ℕ, ◌+◌, ◌-◌, ◌<◌, ◌≤◌, false, true, List, [], ◌∷◌, ◌++◌, Option, None, Some, length, slice_index, ◌==◌, not, MatchOption}
 use Rattle.std.specs.List.{AllByRecursion, count_by}
-use Rattle.nc_types.specs.Id.{Id, is_past}
+use Rattle.nc_types.specs.Id.{Id, is_past, last_second}
 use Rattle.nc_types.specs.Message.{Message}
 use Rattle.nc_types.specs.declared.info.FullLine.{FullLine}
 use Rattle.nc_journal.specs.declared.event.Event.{Event}
@@ -16,7 +16,7 @@ use Rattle.nc_owner.specs.declared.order.Order.{Order}
 use Rattle.nc_owner.specs.Ascending.{has_number}
 use Rattle.nc_owner.specs.State.{OwnerAt, Bench, entries_of, found, opened, bench_of}
 use Rattle.nc_owner.specs.AlertLines.{OutLine}
-use Rattle.nc_owner.specs.Leave.{touched, spent}
+use Rattle.nc_owner.specs.Leave.{touched, without_spent}
 use Rattle.nc_owner.specs.Publish.{stamp, leaving, slots_of}
 
 -- how a publish was answered
@@ -45,7 +45,7 @@ ready o row s = touched (bench_of o.chan row s)
 
 -- the answer is 503 exactly where the stamp's time passes the greatest time
 abbrev pub IsLateExactly : Order → List (Slot Message) → OwnerAt → List OutLine → Type 0
-IsLateExactly o row s lines = (answers_of lines ≡ with_status 503) ↔ (253402300799 < (stamp (bench_of o.chan row s)).time)
+IsLateExactly o row s lines = (answers_of lines ≡ with_status 503) ↔ (last_second < (stamp (bench_of o.chan row s)).time)
 
 -- of some slots those that have holds
 abbrev pub held_among : List ℕ → List ℕ → ℕ
@@ -65,11 +65,13 @@ pub record FullExactly (slots : ℕ) (usage : FullLine) (answers : List Answered
 
 -- it is so of a publish where there is time left
 abbrev pub IsFullExactly : List ℕ → Order → List (Slot Message) → OwnerAt → List OutLine → Type 0
-IsFullExactly counts o row s lines = (stamp (bench_of o.chan row s)).time ≤ 253402300799 → FullExactly s.desk.slots (usage_by counts o (ready o row s)) (answers_of lines)
+IsFullExactly counts o row s lines = (stamp (bench_of o.chan row s)).time ≤ last_second
+    → FullExactly s.desk.slots (usage_by counts o (ready o row s)) (answers_of lines)
 
 -- a publish is answered once, by one of four statuses, and only 507 tells what is in use
 abbrev pub IsAnswered : List Answered → Type 0
-IsAnswered answers = (answers ≡ with_status 201) ⊎ (answers ≡ with_status 202) ⊎ (answers ≡ with_status 503) ⊎ ((usage : FullLine) × (answers ≡ with_usage usage))
+IsAnswered answers = (answers ≡ with_status 201) ⊎ (answers ≡ with_status 202) ⊎ (answers ≡ with_status 503)
+    ⊎ ((usage : FullLine) × (answers ≡ with_usage usage))
 
 -- a stored message has taken a slot of the row, below which none is unused
 abbrev pub IsLowest : List (Slot Message) → Event → Type 0
@@ -111,7 +113,7 @@ abbrev pub NonePast : Id → List Entry → Type 0
 NonePast id es = AllByRecursion (λ e. is_past e.id id ≡ false) es
 
 -- an entry is past the id, and none before it is
-pub record IsFirst (id : Id) (es : List Entry) (e : Entry) (front behind : List Entry) : Type 0 where
+pub record IsFirstPast (id : Id) (es : List Entry) (e : Entry) (front behind : List Entry) : Type 0 where
   pub split : es ≡ front ++ e ∷ behind
   pub none_before : NonePast id front
   pub past : is_past e.id id ≡ true
@@ -119,7 +121,7 @@ pub record IsFirst (id : Id) (es : List Entry) (e : Entry) (front behind : List 
 -- what is found is the id of the first entry past the given one, or none where no entry is past it
 abbrev pub FindsFirst : Id → List Entry → Option Id → Type 0
 FindsFirst id es None = NonePast id es
-FindsFirst id es (Some first) = (e : Entry) × (front : List Entry) × (behind : List Entry) × (first ≡ e.id) × IsFirst id es e front behind
+FindsFirst id es (Some first) = (e : Entry) × (front : List Entry) × (behind : List Entry) × (first ≡ e.id) × IsFirstPast id es e front behind
 
 -- what a look's answer says was found
 abbrev pub found_by : AlertLine → List (Option Id) → List (Option Id)
@@ -133,4 +135,4 @@ founds_of (a ∷ rest) = found_by a.line (founds_of rest)
 
 -- the one answer of a look tells the first entry past the id, once spent entries have left
 abbrev pub TellsFirst : Id → Bench → List OutLine → Type 0
-TellsFirst id b lines = (first : Option Id) × (founds_of lines ≡ first ∷ []) × FindsFirst id (entries_of (spent b).channel) first
+TellsFirst id b lines = (first : Option Id) × (founds_of lines ≡ first ∷ []) × FindsFirst id (entries_of (without_spent b).channel) first

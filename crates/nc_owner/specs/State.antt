@@ -29,8 +29,8 @@ pub record Bench : Type 0 where
   pub row : List (Slot Message)
   pub channel : Channel
 
-abbrev pub at : Desk → List (Slot Message) → Channel → Bench
-at desk row channel = record { desk = desk; row = row; channel = channel }
+abbrev pub bench_from : Desk → List (Slot Message) → Channel → Bench
+bench_from desk row channel = record { desk = desk; row = row; channel = channel }
 
 abbrev pub entries_of : Channel → List Entry
 entries_of ch = ch.backlog.entries
@@ -58,7 +58,7 @@ abbrev pub opened : List ℕ → OwnerAt → Channel
 opened c s = unwrap_or (found c s) (new_channel s.desk)
 
 abbrev pub bench_of : List ℕ → List (Slot Message) → OwnerAt → Bench
-bench_of c row s = at s.desk row (opened c s)
+bench_of c row s = bench_from s.desk row (opened c s)
 
 -- the channels without one of them
 abbrev pub others : List ℕ → List (List ℕ × Channel) → List (List ℕ × Channel)

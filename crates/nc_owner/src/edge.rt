@@ -79,8 +79,10 @@ impl Owner {
         chan: ChanName,
         fence: u64,
     ) -> Result<Done<P::Hold>, NoMemory>
-        ensures events { IfOk result (λ done. done.events.events ≡ raise_events fence self.old ++ edge_events from number k chan (P.slots pool.old self.old.desk.me) (with_floor fence self.old)) }
-        ensures alerts { IfOk result (λ done. out_lines done.alerts ≡ edge_alerts from number chan (P.slots pool.old self.old.desk.me) (with_floor fence self.old)) }
+        ensures events { IfOk result (λ done. done.events.events
+            ≡ raise_events fence self.old ++ edge_events from number k chan (P.slots pool.old self.old.desk.me) (with_floor fence self.old)) }
+        ensures alerts { IfOk result (λ done. out_lines done.alerts
+            ≡ edge_alerts from number chan (P.slots pool.old self.old.desk.me) (with_floor fence self.old)) }
         ensures owner { OnOk result (self.new ≡ edge_after chan (P.slots pool.old self.old.desk.me) (with_floor fence self.old)) }
         ensures slots { OnOk result (P.slots pool.new self.old.desk.me ≡ touched_row chan (P.slots pool.old self.old.desk.me) (with_floor fence self.old)) }
         ensures others { OnOk result (SameOthers self.old.desk.me (P.slots pool.old) (P.slots pool.new)) }

@@ -44,7 +44,8 @@ impl Owner {
         chan: ChanName,
         k: u64,
     ) -> Result<Done<P::Hold>, NoMemory>
-        ensures events { IfOk result (λ done. done.events.events ≡ join_events (record { from = from; k = k }) chan (P.slots pool.old self.old.desk.me) self.old) }
+        ensures events { IfOk result (λ done. done.events.events
+            ≡ join_events (record { from = from; k = k }) chan (P.slots pool.old self.old.desk.me) self.old) }
         ensures alerts { IfOk result (λ done. out_lines done.alerts ≡ []) }
         ensures owner { OnOk result (self.new ≡ join_after (record { from = from; k = k }) chan (P.slots pool.old self.old.desk.me) self.old) }
         ensures slots { OnOk result (P.slots pool.new self.old.desk.me ≡ touched_row chan (P.slots pool.old self.old.desk.me) self.old) }
@@ -77,7 +78,8 @@ impl Owner {
         chan: ChanName,
         k: u64,
     ) -> Result<Done<P::Hold>, NoMemory>
-        ensures events { IfOk result (λ done. done.events.events ≡ part_events (record { from = from; k = k }) chan (P.slots pool.old self.old.desk.me) self.old) }
+        ensures events { IfOk result (λ done. done.events.events
+            ≡ part_events (record { from = from; k = k }) chan (P.slots pool.old self.old.desk.me) self.old) }
         ensures alerts { IfOk result (λ done. out_lines done.alerts ≡ []) }
         ensures owner { OnOk result (self.new ≡ part_after (record { from = from; k = k }) chan (P.slots pool.old self.old.desk.me) self.old) }
         ensures slots { OnOk result (P.slots pool.new self.old.desk.me ≡ touched_row chan (P.slots pool.old self.old.desk.me) self.old) }

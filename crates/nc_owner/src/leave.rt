@@ -3,7 +3,7 @@ ghost use Rattle.std.specs.Prelude.{◌≡◌, ◌∷◌, ◌++◌, [], OnOk, tr
 ghost use Rattle.nc_journal.specs.declared.word.LeftCause.TheVariants.{Deleted as ByDeletion};
 ghost use Rattle.nc_owner.specs.Leave.{left_by, left_event, left_desk, left_row, touch_events, touched, shed_events, shed};
 ghost use Rattle.nc_owner.specs.Pool.{SameOthers};
-ghost use Rattle.nc_owner.specs.State.{at};
+ghost use Rattle.nc_owner.specs.State.{bench_from};
 
 use crate::channel::Channel;
 use crate::desk::Desk;
@@ -51,8 +51,9 @@ pub(crate) fn touch<P: Slots>(
     channel: &mut Channel,
     events: &mut List<Event>,
 ) -> Result<(), NoMemory>
-    ensures events { OnOk result (events.new ≡ events.old ++ touch_events name.now (at desk.old (P.slots pool.old desk.old.me) channel.old)) }
-    ensures bench { OnOk result (at desk.new (P.slots pool.new desk.old.me) channel.new ≡ touched (at desk.old (P.slots pool.old desk.old.me) channel.old)) }
+    ensures events { OnOk result (events.new ≡ events.old ++ touch_events name.now (bench_from desk.old (P.slots pool.old desk.old.me) channel.old)) }
+    ensures bench { OnOk result (bench_from desk.new (P.slots pool.new desk.old.me) channel.new
+        ≡ touched (bench_from desk.old (P.slots pool.old desk.old.me) channel.old)) }
     ensures others { OnOk result (SameOthers desk.old.me (P.slots pool.old) (P.slots pool.new)) }
     ensures holds { OnOk result (P.exact ≡ true → P.holds pool.new ≡ P.holds pool.old) }
 {
@@ -74,8 +75,10 @@ pub(crate) fn shed<P: Slots>(
     cause: LeftCause,
     events: &mut List<Event>,
 ) -> Result<(), NoMemory>
-    ensures events { OnOk result (events.new ≡ events.old ++ shed_events cause count name.now (at desk.old (P.slots pool.old desk.old.me) channel.old)) }
-    ensures bench { OnOk result (at desk.new (P.slots pool.new desk.old.me) channel.new ≡ shed count (at desk.old (P.slots pool.old desk.old.me) channel.old)) }
+    ensures events { OnOk result (events.new
+        ≡ events.old ++ shed_events cause count name.now (bench_from desk.old (P.slots pool.old desk.old.me) channel.old)) }
+    ensures bench { OnOk result (bench_from desk.new (P.slots pool.new desk.old.me) channel.new
+        ≡ shed count (bench_from desk.old (P.slots pool.old desk.old.me) channel.old)) }
     ensures others { OnOk result (SameOthers desk.old.me (P.slots pool.old) (P.slots pool.new)) }
     ensures holds { OnOk result (P.exact ≡ true → P.holds pool.new ≡ P.holds pool.old) }
 {

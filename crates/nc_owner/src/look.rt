@@ -9,14 +9,14 @@ ghost use Rattle.std.specs.List.{AllByRecursion};
 ghost use Rattle.nc_owner.specs.OtherSteps.{touched_of};
 ghost use Rattle.nc_owner.specs.TouchedLook.{CarriesFound, CarriesSeen, seen, seen_events, seen_line, seen_holds};
 ghost use Rattle.nc_owner.specs.Holds.{IsHoldOf};
-ghost use Rattle.nc_owner.specs.Leave.{spend_events, spent};
+ghost use Rattle.nc_owner.specs.Leave.{spend_events, without_spent};
 ghost use Rattle.nc_owner.specs.AlertLines.{out_line, out_lines};
 ghost use Rattle.nc_owner.specs.Fence.{with_floor, raise_events};
 ghost use Rattle.nc_owner.specs.Look.{counted_at, id_of, found_on, found_line, found_holds, answered_events, answered, look_events, look_alerts, look_after, look_row, look_holds};
 ghost use Rattle.nc_owner.specs.Pool.{SameOthers};
 ghost use Rattle.nc_owner.specs.Publish.{granted_slot, one_hold};
 ghost use Rattle.nc_owner.specs.Rules.{IsFresh, NoneExpired, TellsFirst};
-ghost use Rattle.nc_owner.specs.State.{at, entries_of};
+ghost use Rattle.nc_owner.specs.State.{bench_from, entries_of};
 ghost use Rattle.std.specs.Option.{option_map};
 
 use crate::backlog::Backlog;
@@ -51,8 +51,9 @@ fn spend<P: Slots>(
     channel: &mut Channel,
     events: &mut List<Event>,
 ) -> Result<(), NoMemory>
-    ensures events { OnOk result (events.new ≡ events.old ++ spend_events name.now (at desk.old (P.slots pool.old desk.old.me) channel.old)) }
-    ensures bench { OnOk result (at desk.new (P.slots pool.new desk.old.me) channel.new ≡ spent (at desk.old (P.slots pool.old desk.old.me) channel.old)) }
+    ensures events { OnOk result (events.new ≡ events.old ++ spend_events name.now (bench_from desk.old (P.slots pool.old desk.old.me) channel.old)) }
+    ensures bench { OnOk result (bench_from desk.new (P.slots pool.new desk.old.me) channel.new
+        ≡ without_spent (bench_from desk.old (P.slots pool.old desk.old.me) channel.old)) }
     ensures none { OnOk result (find is_spent channel.new.backlog.entries ≡ None) }
     ensures others { OnOk result (SameOthers desk.old.me (P.slots pool.old) (P.slots pool.new)) }
     ensures holds { OnOk result (P.exact ≡ true → P.holds pool.new ≡ P.holds pool.old) }
@@ -97,7 +98,8 @@ fn grant_one<P: Slots>(
 ) -> Result<Grant<P::Hold>, NoMemory>
     ensures events { OnOk result (events.new ≡ events.old ++ Granted desk.old.me desk.old.grants entry.now.slot to ∷ []) }
     ensures grant { IfOk result (λ g. (g.id ≡ entry.now.id) × (g.g ≡ desk.old.grants) × (g.slot ≡ entry.now.slot)) }
-    ensures hold { IfOk result (λ g. (m : Message) → message_of (slot_at (P.slots pool.old desk.old.me) entry.now.slot) ≡ Some m → IsHoldOf P.held desk.old.me m g) }
+    ensures hold { IfOk result (λ g. (m : Message)
+        → message_of (slot_at (P.slots pool.old desk.old.me) entry.now.slot) ≡ Some m → IsHoldOf P.held desk.old.me m g) }
     ensures desk { OnOk result (desk.new ≡ record desk.old { grants = desk.old.grants + 1 }) }
     ensures row { OnOk result (P.slots pool.new desk.old.me ≡ granted_slot entry.now.slot (P.slots pool.old desk.old.me) to) }
     ensures others { OnOk result (SameOthers desk.old.me (P.slots pool.old) (P.slots pool.new)) }
@@ -135,12 +137,17 @@ fn answer<P: Slots>(
     events: &mut List<Event>,
 ) -> Result<Outgoing<P::Hold>, NoMemory>
     requires { find is_spent channel.old.backlog.entries ≡ None }
-    ensures events { OnOk result (events.new ≡ events.old ++ answered_events asked.now.from asked.now.number name.now asked.now.after (at desk.old (P.slots pool.old desk.old.me) channel.old)) }
-    ensures alert { IfOk result (λ out. out_line out ≡ found_line asked.now.from asked.now.number (entry_past asked.now.after channel.old.backlog.entries) desk.old) }
-    ensures bench { OnOk result (at desk.new (P.slots pool.new desk.old.me) channel.new ≡ answered asked.now.from asked.now.after (at desk.old (P.slots pool.old desk.old.me) channel.old)) }
+    ensures events { OnOk result (events.new ≡ events.old
+        ++ answered_events asked.now.from asked.now.number name.now asked.now.after (bench_from desk.old (P.slots pool.old desk.old.me) channel.old)) }
+    ensures alert { IfOk result (λ out. out_line out
+        ≡ found_line asked.now.from asked.now.number (entry_past asked.now.after channel.old.backlog.entries) desk.old) }
+    ensures bench { OnOk result (bench_from desk.new (P.slots pool.new desk.old.me) channel.new
+        ≡ answered asked.now.from asked.now.after (bench_from desk.old (P.slots pool.old desk.old.me) channel.old)) }
     ensures carries { IfOk result (λ out. CarriesFound P.held desk.old.me (P.slots pool.old desk.old.me) (entry_past asked.now.after channel.old.backlog.entries) out) }
     ensures others { OnOk result (SameOthers desk.old.me (P.slots pool.old) (P.slots pool.new)) }
-    ensures holds { OnOk result (P.exact ≡ true → P.holds pool.new desk.old.me ≡ found_holds asked.now.from (entry_past asked.now.after channel.old.backlog.entries) (P.holds pool.old desk.old.me)) }
+    ensures holds { OnOk result (P.exact ≡ true
+        → P.holds pool.new desk.old.me
+        ≡ found_holds asked.now.from (entry_past asked.now.after channel.old.backlog.entries) (P.holds pool.old desk.old.me)) }
     ensures other_holds { OnOk result (P.exact ≡ true → SameOthers desk.old.me (P.holds pool.old) (P.holds pool.new)) }
 {
     let q = desk.looks;
@@ -187,12 +194,17 @@ fn look_at<P: Slots>(
     channel: &mut Channel,
     events: &mut List<Event>,
 ) -> Result<Outgoing<P::Hold>, NoMemory>
-    ensures events { OnOk result (events.new ≡ events.old ++ seen_events asked.now.from asked.now.number name.now asked.now.after (at desk.old (P.slots pool.old desk.old.me) channel.old)) }
-    ensures alert { IfOk result (λ out. out_line out ≡ seen_line asked.now.from asked.now.number asked.now.after (at desk.old (P.slots pool.old desk.old.me) channel.old)) }
-    ensures bench { OnOk result (at desk.new (P.slots pool.new desk.old.me) channel.new ≡ seen asked.now.from asked.now.after (at desk.old (P.slots pool.old desk.old.me) channel.old)) }
-    ensures carries { IfOk result (λ out. CarriesSeen P.held asked.now.after (at desk.old (P.slots pool.old desk.old.me) channel.old) out) }
+    ensures events { OnOk result (events.new ≡ events.old
+        ++ seen_events asked.now.from asked.now.number name.now asked.now.after (bench_from desk.old (P.slots pool.old desk.old.me) channel.old)) }
+    ensures alert { IfOk result (λ out. out_line out
+        ≡ seen_line asked.now.from asked.now.number asked.now.after (bench_from desk.old (P.slots pool.old desk.old.me) channel.old)) }
+    ensures bench { OnOk result (bench_from desk.new (P.slots pool.new desk.old.me) channel.new
+        ≡ seen asked.now.from asked.now.after (bench_from desk.old (P.slots pool.old desk.old.me) channel.old)) }
+    ensures carries { IfOk result (λ out. CarriesSeen P.held asked.now.after (bench_from desk.old (P.slots pool.old desk.old.me) channel.old) out) }
     ensures others { OnOk result (SameOthers desk.old.me (P.slots pool.old) (P.slots pool.new)) }
-    ensures holds { OnOk result (P.exact ≡ true → P.holds pool.new desk.old.me ≡ seen_holds asked.now.from asked.now.after (at desk.old (P.slots pool.old desk.old.me) channel.old) (P.holds pool.old desk.old.me)) }
+    ensures holds { OnOk result (P.exact ≡ true
+        → P.holds pool.new desk.old.me
+        ≡ seen_holds asked.now.from asked.now.after (bench_from desk.old (P.slots pool.old desk.old.me) channel.old) (P.holds pool.old desk.old.me)) }
     ensures other_holds { OnOk result (P.exact ≡ true → SameOthers desk.old.me (P.holds pool.old) (P.holds pool.new)) }
     ensures fresh { OnOk result (NoneExpired desk.old.clock channel.old.backlog.entries → NoneExpired desk.new.clock channel.new.backlog.entries) }
 {
@@ -210,13 +222,18 @@ impl Owner {
         chan: ChanName,
         mut events: List<Event>,
     ) -> Result<Done<P::Hold>, NoMemory>
-        ensures events { IfOk result (λ done. done.events.events ≡ events ++ look_events asked.now.from asked.now.number chan asked.now.after (P.slots pool.old self.old.desk.me) self.old) }
-        ensures alerts { IfOk result (λ done. out_lines done.alerts ≡ look_alerts asked.now.from asked.now.number chan asked.now.after (P.slots pool.old self.old.desk.me) self.old) }
+        ensures events { IfOk result (λ done. done.events.events
+            ≡ events ++ look_events asked.now.from asked.now.number chan asked.now.after (P.slots pool.old self.old.desk.me) self.old) }
+        ensures alerts { IfOk result (λ done. out_lines done.alerts
+            ≡ look_alerts asked.now.from asked.now.number chan asked.now.after (P.slots pool.old self.old.desk.me) self.old) }
         ensures owner { OnOk result (self.new ≡ look_after asked.now.from chan asked.now.after (P.slots pool.old self.old.desk.me) self.old) }
-        ensures slots { OnOk result (P.slots pool.new self.old.desk.me ≡ look_row asked.now.from chan asked.now.after (P.slots pool.old self.old.desk.me) self.old) }
+        ensures slots { OnOk result (P.slots pool.new self.old.desk.me
+            ≡ look_row asked.now.from chan asked.now.after (P.slots pool.old self.old.desk.me) self.old) }
         ensures carries { IfOk result (λ done. AllByRecursion (CarriesSeen P.held asked.now.after (touched_of chan (P.slots pool.old self.old.desk.me) self.old)) done.alerts) }
         ensures others { OnOk result (SameOthers self.old.desk.me (P.slots pool.old) (P.slots pool.new)) }
-        ensures holds { OnOk result (P.exact ≡ true → P.holds pool.new self.old.desk.me ≡ look_holds asked.now.from chan asked.now.after (P.slots pool.old self.old.desk.me) self.old (P.holds pool.old self.old.desk.me)) }
+        ensures holds { OnOk result (P.exact ≡ true
+            → P.holds pool.new self.old.desk.me
+            ≡ look_holds asked.now.from chan asked.now.after (P.slots pool.old self.old.desk.me) self.old (P.holds pool.old self.old.desk.me)) }
         ensures other_holds { OnOk result (P.exact ≡ true → SameOthers self.old.desk.me (P.holds pool.old) (P.holds pool.new)) }
         ensures first { IfOk result (λ done. TellsFirst asked.now.after (touched_of chan (P.slots pool.old self.old.desk.me) self.old) (out_lines done.alerts)) }
         ensures fresh { OnOk result (IsFresh chan self.new) }
@@ -254,13 +271,18 @@ impl Owner {
         after: MsgId,
         fence: u64,
     ) -> Result<Done<P::Hold>, NoMemory>
-        ensures events { IfOk result (λ done. done.events.events ≡ raise_events fence self.old ++ look_events from number chan after (P.slots pool.old self.old.desk.me) (with_floor fence self.old)) }
-        ensures alerts { IfOk result (λ done. out_lines done.alerts ≡ look_alerts from number chan after (P.slots pool.old self.old.desk.me) (with_floor fence self.old)) }
+        ensures events { IfOk result (λ done. done.events.events
+            ≡ raise_events fence self.old ++ look_events from number chan after (P.slots pool.old self.old.desk.me) (with_floor fence self.old)) }
+        ensures alerts { IfOk result (λ done. out_lines done.alerts
+            ≡ look_alerts from number chan after (P.slots pool.old self.old.desk.me) (with_floor fence self.old)) }
         ensures owner { OnOk result (self.new ≡ look_after from chan after (P.slots pool.old self.old.desk.me) (with_floor fence self.old)) }
-        ensures slots { OnOk result (P.slots pool.new self.old.desk.me ≡ look_row from chan after (P.slots pool.old self.old.desk.me) (with_floor fence self.old)) }
+        ensures slots { OnOk result (P.slots pool.new self.old.desk.me
+            ≡ look_row from chan after (P.slots pool.old self.old.desk.me) (with_floor fence self.old)) }
         ensures carries { IfOk result (λ done. AllByRecursion (CarriesSeen P.held after (touched_of chan (P.slots pool.old self.old.desk.me) (with_floor fence self.old))) done.alerts) }
         ensures others { OnOk result (SameOthers self.old.desk.me (P.slots pool.old) (P.slots pool.new)) }
-        ensures holds { OnOk result (P.exact ≡ true → P.holds pool.new self.old.desk.me ≡ look_holds from chan after (P.slots pool.old self.old.desk.me) (with_floor fence self.old) (P.holds pool.old self.old.desk.me)) }
+        ensures holds { OnOk result (P.exact ≡ true
+            → P.holds pool.new self.old.desk.me
+            ≡ look_holds from chan after (P.slots pool.old self.old.desk.me) (with_floor fence self.old) (P.holds pool.old self.old.desk.me)) }
         ensures other_holds { OnOk result (P.exact ≡ true → SameOthers self.old.desk.me (P.holds pool.old) (P.holds pool.new)) }
         ensures first { IfOk result (λ done. TellsFirst after (touched_of chan (P.slots pool.old self.old.desk.me) (with_floor fence self.old)) (out_lines done.alerts)) }
         ensures fresh { OnOk result (IsFresh chan self.new) }

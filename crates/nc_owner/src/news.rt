@@ -6,7 +6,7 @@ ghost use Rattle.nc_journal.specs.Stamp.{expiry};
 ghost use Rattle.nc_owner.specs.Holds.{AllCarry};
 ghost use Rattle.nc_owner.specs.AlertLines.{out_lines};
 ghost use Rattle.nc_owner.specs.Pool.{SameOthers};
-ghost use Rattle.nc_owner.specs.Publish.{message_of, stored_event, lowest_slot, granted_slot, granted_desk, granted_events, notices, one_hold};
+ghost use Rattle.nc_owner.specs.Publish.{message_of_order, stored_event, lowest_slot, granted_slot, granted_desk, granted_events, notices, one_hold};
 
 use crate::desk::Desk;
 use crate::order::Order;
@@ -50,9 +50,11 @@ pub(crate) fn put_message<P: Slots>(
 ) -> Result<News, NoMemory>
     requires expires { expires ≡ expiry desk.now.clock order.timeout }
     requires content_type { IsContentType order.content_type }
-    ensures events { OnOk result (events.new ≡ events.old ++ stored_event from order id (lowest_slot (P.slots pool.old desk.now.me)) members desk.now ∷ []) }
+    ensures events { OnOk result (events.new
+        ≡ events.old ++ stored_event from order id (lowest_slot (P.slots pool.old desk.now.me)) members desk.now ∷ []) }
     ensures news { IfOk result (λ n. n ≡ record { chan = order.chan; id = id; slot = lowest_slot (P.slots pool.old desk.now.me); expires = expires }) }
-    ensures row { OnOk result (P.slots pool.new desk.now.me ≡ slice_set (P.slots pool.old desk.now.me) (lowest_slot (P.slots pool.old desk.now.me)) (filled (message_of id order desk.now.clock))) }
+    ensures row { OnOk result (P.slots pool.new desk.now.me
+        ≡ slice_set (P.slots pool.old desk.now.me) (lowest_slot (P.slots pool.old desk.now.me)) (filled (message_of_order id order desk.now.clock))) }
     ensures taken { OnOk result (lowest_unused (P.slots pool.old desk.now.me) ≡ Some (lowest_slot (P.slots pool.old desk.now.me))) }
     ensures others { OnOk result (SameOthers desk.now.me (P.slots pool.old) (P.slots pool.new)) }
     ensures holds { OnOk result (P.exact ≡ true → P.holds pool.new ≡ P.holds pool.old) }
@@ -99,11 +101,15 @@ fn notify_one<P: Slots>(
     alerts: &mut List<Outgoing<P::Hold>>,
 ) -> Result<(), NoMemory>
     ensures events { OnOk result (events.new ≡ events.old ++ granted_events desk.old.me news.now.slot desk.old.grants (to ∷ [])) }
-    ensures alerts { OnOk result (out_lines alerts.new ≡ out_lines alerts.old ++ notices news.now.chan news.now.id news.now.slot desk.old.grants (to ∷ [])) }
+    ensures alerts { OnOk result (out_lines alerts.new
+        ≡ out_lines alerts.old ++ notices news.now.chan news.now.id news.now.slot desk.old.grants (to ∷ [])) }
     ensures desk { OnOk result (desk.new ≡ granted_desk (to ∷ []) desk.old) }
     ensures row { OnOk result (P.slots pool.new desk.old.me ≡ granted_slot news.now.slot (P.slots pool.old desk.old.me) to) }
-    ensures message { OnOk result (message_in (slot_at (P.slots pool.new desk.old.me) news.now.slot) ≡ message_in (slot_at (P.slots pool.old desk.old.me) news.now.slot)) }
-    ensures carries { OnOk result ((m : Message) → message_in (slot_at (P.slots pool.old desk.old.me) news.now.slot) ≡ Some m → AllCarry P.held desk.old.me m alerts.old → AllCarry P.held desk.old.me m alerts.new) }
+    ensures message { OnOk result (message_in (slot_at (P.slots pool.new desk.old.me) news.now.slot)
+        ≡ message_in (slot_at (P.slots pool.old desk.old.me) news.now.slot)) }
+    ensures carries { OnOk result ((m : Message)
+        → message_in (slot_at (P.slots pool.old desk.old.me) news.now.slot) ≡ Some m
+        → AllCarry P.held desk.old.me m alerts.old → AllCarry P.held desk.old.me m alerts.new) }
     ensures others { OnOk result (SameOthers desk.old.me (P.slots pool.old) (P.slots pool.new)) }
     ensures holds { OnOk result (P.exact ≡ true → P.holds pool.new desk.old.me ≡ one_hold news.now.slot (P.holds pool.old desk.old.me) to) }
     ensures other_holds { OnOk result (P.exact ≡ true → SameOthers desk.old.me (P.holds pool.old) (P.holds pool.new)) }
@@ -145,7 +151,9 @@ pub(crate) fn notify<P: Slots>(
     ensures alerts { OnOk result (out_lines alerts.new ≡ out_lines alerts.old ++ notices news.now.chan news.now.id news.now.slot desk.old.grants marks.now) }
     ensures desk { OnOk result (desk.new ≡ granted_desk marks.now desk.old) }
     ensures row { OnOk result (P.slots pool.new desk.old.me ≡ fold (granted_slot news.now.slot) (P.slots pool.old desk.old.me) marks.now) }
-    ensures carries { OnOk result ((m : Message) → message_in (slot_at (P.slots pool.old desk.old.me) news.now.slot) ≡ Some m → AllCarry P.held desk.old.me m alerts.old → AllCarry P.held desk.old.me m alerts.new) }
+    ensures carries { OnOk result ((m : Message)
+        → message_in (slot_at (P.slots pool.old desk.old.me) news.now.slot) ≡ Some m
+        → AllCarry P.held desk.old.me m alerts.old → AllCarry P.held desk.old.me m alerts.new) }
     ensures others { OnOk result (SameOthers desk.old.me (P.slots pool.old) (P.slots pool.new)) }
     ensures holds { OnOk result (P.exact ≡ true → P.holds pool.new desk.old.me ≡ fold (one_hold news.now.slot) (P.holds pool.old desk.old.me) marks.now) }
     ensures other_holds { OnOk result (P.exact ≡ true → SameOthers desk.old.me (P.holds pool.old) (P.holds pool.new)) }

@@ -1,5 +1,6 @@
 //! A message is published.
 ghost use Rattle.std.specs.Prelude.{◌≡◌, ◌≤◌, ◌∷◌, ◌++◌, [], IfOk, IfSome, OnOk, None, false, is_some, nat_le, true, map, max, ◌||◌};
+ghost use Rattle.nc_types.specs.Id.{last_second};
 ghost use Rattle.nc_types.specs.Message.{IsContentType};
 ghost use Rattle.nc_journal.specs.Stamp.{next_id};
 ghost use Rattle.nc_alert.specs.declared.alert.Alert.TheVariants.{PubAnswer};
@@ -8,10 +9,10 @@ ghost use Rattle.nc_owner.specs.AlertLines.{out_lines};
 ghost use Rattle.nc_owner.specs.Pool.{SameOthers};
 ghost use Rattle.nc_owner.specs.Poll.{AnswersFit, slot_of, told_answer};
 ghost use Rattle.nc_owner.specs.PublishClauses.{Posts, Publishes};
-ghost use Rattle.nc_owner.specs.Publish.{cleared, cleared_events, is_full, message_of, stamp};
+ghost use Rattle.nc_owner.specs.Publish.{cleared, cleared_events, is_full, message_of_order, stamp};
 ghost use Rattle.nc_owner.specs.Leave.{touched};
 ghost use Rattle.nc_owner.specs.Rules.{IsFresh};
-ghost use Rattle.nc_owner.specs.State.{at, bench_of};
+ghost use Rattle.nc_owner.specs.State.{bench_from, bench_of};
 
 use crate::backlog::Backlog;
 use crate::channel::Channel;
@@ -43,7 +44,7 @@ pub(crate) struct Posted<H> {
 /// The id of the next message, where there is time left for it.
 fn next_id(now: u64, last: &MsgId) -> Option<MsgId>
     ensures some { IfSome result (λ id. id ≡ next_id now last.now) }
-    ensures fits { is_some result ≡ nat_le (next_id now last.now).time 253402300799 }
+    ensures fits { is_some result ≡ nat_le (next_id now last.now).time last_second }
 {
     if last.time < now {
         if now > GREATEST_TIME {
@@ -69,7 +70,7 @@ fn next_id(now: u64, last: &MsgId) -> Option<MsgId>
 /// The stamp of a message, where there is time left for it.
 fn stamp(desk: &Desk, backlog: &Backlog) -> Option<MsgId>
     ensures some { IfSome result (λ id. id ≡ next_id (max desk.now.clock desk.now.floor) backlog.now.last) }
-    ensures fits { is_some result ≡ nat_le (next_id (max desk.now.clock desk.now.floor) backlog.now.last).time 253402300799 }
+    ensures fits { is_some result ≡ nat_le (next_id (max desk.now.clock desk.now.floor) backlog.now.last).time last_second }
 {
     let now = desk.clock.seconds().max(desk.floor);
     next_id(now, &backlog.last())
@@ -126,8 +127,8 @@ pub(crate) fn post<P: Slots>(
 ) -> Result<Posted<P::Hold>, NoMemory>
     requires timeout { order.timeout ≤ 1000000000 }
     requires content_type { IsContentType order.content_type }
-    ensures posts { IfOk result (λ p. Posts P.exact from order first.now (at desk.old (P.slots pool.old desk.old.me) channel.old) (P.holds pool.old desk.old.me) p.is_stored events p.done.events.events (out_lines p.done.alerts) (at desk.new (P.slots pool.new desk.old.me) channel.new) (P.holds pool.new desk.old.me)) }
-    ensures carries { IfOk result (λ p. AllCarry P.held desk.old.me (message_of (stamp (at desk.old (P.slots pool.old desk.old.me) channel.old)) order desk.old.clock) p.done.alerts) }
+    ensures posts { IfOk result (λ p. Posts P.exact from order first.now (bench_from desk.old (P.slots pool.old desk.old.me) channel.old) (P.holds pool.old desk.old.me) p.is_stored events p.done.events.events (out_lines p.done.alerts) (bench_from desk.new (P.slots pool.new desk.old.me) channel.new) (P.holds pool.new desk.old.me)) }
+    ensures carries { IfOk result (λ p. AllCarry P.held desk.old.me (message_of_order (stamp (bench_from desk.old (P.slots pool.old desk.old.me) channel.old)) order desk.old.clock) p.done.alerts) }
     ensures others { OnOk result (SameOthers desk.old.me (P.slots pool.old) (P.slots pool.new)) }
     ensures other_holds { OnOk result (P.exact ≡ true → SameOthers desk.old.me (P.holds pool.old) (P.holds pool.new)) }
 {
@@ -159,11 +160,13 @@ fn clear<P: Slots>(
     channel: &mut Channel,
     events: &mut List<Event>,
 ) -> Result<Vec<PollAnswer>, NoMemory>
-    ensures events { IfOk result (λ a. events.new ≡ events.old ++ cleared_events a.items name.now (at desk.old (P.slots pool.old desk.old.me) channel.old)) }
-    ensures bench { IfOk result (λ a. at desk.new (P.slots pool.new desk.old.me) channel.new ≡ cleared a.items (at desk.old (P.slots pool.old desk.old.me) channel.old)) }
-    ensures each { IfOk result (λ a. map slot_of a.items ≡ (touched (at desk.old (P.slots pool.old desk.old.me) channel.old)).desk.retired) }
-    ensures fit { IfOk result (λ a. AnswersFit (touched (at desk.old (P.slots pool.old desk.old.me) channel.old)).row a.items) }
-    ensures told { IfOk result (λ a. P.exact ≡ true → a.items ≡ map (told_answer (P.holds pool.old desk.old.me)) (touched (at desk.old (P.slots pool.old desk.old.me) channel.old)).desk.retired) }
+    ensures events { IfOk result (λ a. events.new
+        ≡ events.old ++ cleared_events a.items name.now (bench_from desk.old (P.slots pool.old desk.old.me) channel.old)) }
+    ensures bench { IfOk result (λ a. bench_from desk.new (P.slots pool.new desk.old.me) channel.new
+        ≡ cleared a.items (bench_from desk.old (P.slots pool.old desk.old.me) channel.old)) }
+    ensures each { IfOk result (λ a. map slot_of a.items ≡ (touched (bench_from desk.old (P.slots pool.old desk.old.me) channel.old)).desk.retired) }
+    ensures fit { IfOk result (λ a. AnswersFit (touched (bench_from desk.old (P.slots pool.old desk.old.me) channel.old)).row a.items) }
+    ensures told { IfOk result (λ a. P.exact ≡ true → a.items ≡ map (told_answer (P.holds pool.old desk.old.me)) (touched (bench_from desk.old (P.slots pool.old desk.old.me) channel.old)).desk.retired) }
     ensures others { OnOk result (SameOthers desk.old.me (P.slots pool.old) (P.slots pool.new)) }
     ensures holds { OnOk result (P.exact ≡ true → P.holds pool.new ≡ P.holds pool.old) }
 {
@@ -192,7 +195,7 @@ pub(crate) fn publish_to<P: Slots>(
     requires content_type { IsContentType order.content_type }
     ensures publishes { IfOk result (λ done. Publishes P.exact from order (P.slots pool.old desk.old.me) (record { desk = desk.old; channels = channels.old.entries }) (P.holds pool.old desk.old.me) done.events.events (out_lines done.alerts) (P.slots pool.new desk.old.me) (record { desk = desk.new; channels = channels.new.entries }) (P.holds pool.new desk.old.me)) }
     ensures fresh { OnOk result (IsFresh order.chan (record { desk = desk.new; channels = channels.new.entries })) }
-    ensures carries { IfOk result (λ done. AllCarry P.held desk.old.me (message_of (stamp (bench_of order.chan (P.slots pool.old desk.old.me) (record { desk = desk.old; channels = channels.old.entries }))) order desk.old.clock) done.alerts) }
+    ensures carries { IfOk result (λ done. AllCarry P.held desk.old.me (message_of_order (stamp (bench_of order.chan (P.slots pool.old desk.old.me) (record { desk = desk.old; channels = channels.old.entries }))) order desk.old.clock) done.alerts) }
     ensures others { OnOk result (SameOthers desk.old.me (P.slots pool.old) (P.slots pool.new)) }
     ensures other_holds { OnOk result (P.exact ≡ true → SameOthers desk.old.me (P.holds pool.old) (P.holds pool.new)) }
 {

@@ -5,7 +5,7 @@ ghost use Rattle.nc_owner.specs.Holds.{AllCarry};
 ghost use Rattle.nc_owner.specs.AlertLines.{out_lines};
 ghost use Rattle.nc_owner.specs.Pool.{SameOthers};
 ghost use Rattle.nc_owner.specs.PublishClauses.{Publishes};
-ghost use Rattle.nc_owner.specs.Publish.{message_of, stamp};
+ghost use Rattle.nc_owner.specs.Publish.{message_of_order, stamp};
 ghost use Rattle.nc_owner.specs.Rules.{IsAnswered, IsLateExactly, IsFullExactly, TellsMembers, FreesOnlyRetired, FreesUnheld, TakesLowest, IsFresh, answers_of};
 ghost use Rattle.nc_owner.specs.State.{bench_of};
 
@@ -30,14 +30,15 @@ impl Owner {
         requires timeout { order.timeout ≤ 1000000000 }
         requires content_type { IsContentType order.content_type }
         ensures publishes { IfOk result (λ done. Publishes P.exact from order (P.slots pool.old self.old.desk.me) self.old (P.holds pool.old self.old.desk.me) done.events.events (out_lines done.alerts) (P.slots pool.new self.old.desk.me) self.new (P.holds pool.new self.old.desk.me)) }
-        ensures carries { IfOk result (λ done. AllCarry P.held self.old.desk.me (message_of (stamp (bench_of order.chan (P.slots pool.old self.old.desk.me) self.old)) order self.old.desk.clock) done.alerts) }
+        ensures carries { IfOk result (λ done. AllCarry P.held self.old.desk.me (message_of_order (stamp (bench_of order.chan (P.slots pool.old self.old.desk.me) self.old)) order self.old.desk.clock) done.alerts) }
         ensures others { OnOk result (SameOthers self.old.desk.me (P.slots pool.old) (P.slots pool.new)) }
         ensures other_holds { OnOk result (P.exact ≡ true → SameOthers self.old.desk.me (P.holds pool.old) (P.holds pool.new)) }
 
         // The owner's rules in their own words.
         ensures answered { IfOk result (λ done. IsAnswered (answers_of (out_lines done.alerts))) }
         ensures late { IfOk result (λ done. IsLateExactly order (P.slots pool.old self.old.desk.me) self.old (out_lines done.alerts)) }
-        ensures full { IfOk result (λ done. P.exact ≡ true → IsFullExactly (P.holds pool.old self.old.desk.me) order (P.slots pool.old self.old.desk.me) self.old (out_lines done.alerts)) }
+        ensures full { IfOk result (λ done. P.exact ≡ true
+            → IsFullExactly (P.holds pool.old self.old.desk.me) order (P.slots pool.old self.old.desk.me) self.old (out_lines done.alerts)) }
         ensures members { IfOk result (λ done. TellsMembers order self.old (out_lines done.alerts)) }
         ensures lowest { IfOk result (λ done. TakesLowest (P.slots pool.new self.old.desk.me) done.events.events) }
         ensures retired { IfOk result (λ done. FreesOnlyRetired self.old.desk.retired done.events.events) }

@@ -4,7 +4,7 @@ ghost use Rattle.nc_owner.specs.Ascending.{ascending};
 ghost use Rattle.nc_owner.specs.Poll.{AnswersFit, polled_all, slot_of, told_answer};
 ghost use Rattle.nc_owner.specs.Pool.{SameOthers};
 ghost use Rattle.nc_owner.specs.Publish.{leaving, leaving_count, left_slots, roomy, roomy_events, slots_of, usage_of};
-ghost use Rattle.nc_owner.specs.State.{at};
+ghost use Rattle.nc_owner.specs.State.{bench_from};
 
 use crate::ascending::ascending;
 use crate::backlog::Backlog;
@@ -48,10 +48,11 @@ pub(crate) fn count_usage<P: Slots>(
     channel: &Channel,
     first: &[PollAnswer],
 ) -> Result<(Vec<PollAnswer>, FullLine), NoMemory>
-    ensures usage { IfOk result (λ r. r.1 ≡ usage_of most (record { retired = first.now; leaving = r.0.items; left = [] }) (at desk.now (P.slots pool.old desk.now.me) channel.now)) }
-    ensures each { IfOk result (λ r. map slot_of r.0.items ≡ slots_of (leaving most (at desk.now (P.slots pool.old desk.now.me) channel.now))) }
+    ensures usage { IfOk result (λ r. r.1
+        ≡ usage_of most (record { retired = first.now; leaving = r.0.items; left = [] }) (bench_from desk.now (P.slots pool.old desk.now.me) channel.now)) }
+    ensures each { IfOk result (λ r. map slot_of r.0.items ≡ slots_of (leaving most (bench_from desk.now (P.slots pool.old desk.now.me) channel.now))) }
     ensures fit { IfOk result (λ r. AnswersFit (P.slots pool.old desk.now.me) r.0.items) }
-    ensures told { IfOk result (λ r. P.exact ≡ true → r.0.items ≡ map (told_answer (P.holds pool.old desk.now.me)) (slots_of (leaving most (at desk.now (P.slots pool.old desk.now.me) channel.now)))) }
+    ensures told { IfOk result (λ r. P.exact ≡ true → r.0.items ≡ map (told_answer (P.holds pool.old desk.now.me)) (slots_of (leaving most (bench_from desk.now (P.slots pool.old desk.now.me) channel.now)))) }
     ensures row { IfOk result (λ r. P.slots pool.new desk.now.me ≡ polled_all r.0.items (P.slots pool.old desk.now.me)) }
     ensures others { OnOk result (SameOthers desk.now.me (P.slots pool.old) (P.slots pool.new)) }
     ensures holds { OnOk result (P.exact ≡ true → P.holds pool.new ≡ P.holds pool.old) }
@@ -76,11 +77,14 @@ pub(crate) fn make_room<P: Slots>(
     channel: &mut Channel,
     events: &mut List<Event>,
 ) -> Result<Vec<PollAnswer>, NoMemory>
-    ensures events { IfOk result (λ a. events.new ≡ events.old ++ roomy_events most a.items name.now (at desk.old (P.slots pool.old desk.old.me) channel.old)) }
-    ensures bench { IfOk result (λ a. at desk.new (P.slots pool.new desk.old.me) channel.new ≡ roomy most a.items (at desk.old (P.slots pool.old desk.old.me) channel.old)) }
-    ensures each { IfOk result (λ a. map slot_of a.items ≡ ascending (slots_of (leaving most (at desk.old (P.slots pool.old desk.old.me) channel.old)))) }
-    ensures fit { IfOk result (λ a. AnswersFit (left_slots most (at desk.old (P.slots pool.old desk.old.me) channel.old)) a.items) }
-    ensures told { IfOk result (λ a. P.exact ≡ true → a.items ≡ map (told_answer (P.holds pool.old desk.old.me)) (ascending (slots_of (leaving most (at desk.old (P.slots pool.old desk.old.me) channel.old))))) }
+    ensures events { IfOk result (λ a. events.new
+        ≡ events.old ++ roomy_events most a.items name.now (bench_from desk.old (P.slots pool.old desk.old.me) channel.old)) }
+    ensures bench { IfOk result (λ a. bench_from desk.new (P.slots pool.new desk.old.me) channel.new
+        ≡ roomy most a.items (bench_from desk.old (P.slots pool.old desk.old.me) channel.old)) }
+    ensures each { IfOk result (λ a. map slot_of a.items
+        ≡ ascending (slots_of (leaving most (bench_from desk.old (P.slots pool.old desk.old.me) channel.old)))) }
+    ensures fit { IfOk result (λ a. AnswersFit (left_slots most (bench_from desk.old (P.slots pool.old desk.old.me) channel.old)) a.items) }
+    ensures told { IfOk result (λ a. P.exact ≡ true → a.items ≡ map (told_answer (P.holds pool.old desk.old.me)) (ascending (slots_of (leaving most (bench_from desk.old (P.slots pool.old desk.old.me) channel.old))))) }
     ensures others { OnOk result (SameOthers desk.old.me (P.slots pool.old) (P.slots pool.new)) }
     ensures holds { OnOk result (P.exact ≡ true → P.holds pool.new ≡ P.holds pool.old) }
 {

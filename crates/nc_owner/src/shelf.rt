@@ -1,7 +1,7 @@
 //! The channels of an owner: a step takes one out, works on it, and puts it back.
 ghost use Rattle.std.specs.Prelude.{◌≡◌, ◌++◌, OnOk, IfOk, None, Some, if◌then◌else◌, is_some, unwrap_or, true};
 ghost use Rattle.std.specs.Map.{lookup};
-ghost use Rattle.nc_owner.specs.State.{at, is_name, new_channel, others, put_back, exists};
+ghost use Rattle.nc_owner.specs.State.{bench_from, is_name, new_channel, others, put_back, exists};
 ghost use Rattle.nc_owner.specs.OtherSteps.{touched_of, touch_events_of};
 ghost use Rattle.nc_owner.specs.Pool.{SameOthers};
 ghost use Rattle.nc_owner.specs.Rules.{IsFresh, NoneExpired};
@@ -59,7 +59,8 @@ impl Owner {
         events: &mut List<Event>,
     ) -> Result<(Channel, bool), NoMemory>
         ensures events { OnOk result (events.new ≡ events.old ++ touch_events_of name.now (P.slots pool.old self.old.desk.me) self.old) }
-        ensures bench { IfOk result (λ opened. at self.new.desk (P.slots pool.new self.old.desk.me) opened.0 ≡ touched_of name.now (P.slots pool.old self.old.desk.me) self.old) }
+        ensures bench { IfOk result (λ opened. bench_from self.new.desk (P.slots pool.new self.old.desk.me) opened.0
+            ≡ touched_of name.now (P.slots pool.old self.old.desk.me) self.old) }
         ensures existed { IfOk result (λ opened. opened.1 ≡ exists name.now self.old) }
         ensures channels { OnOk result (self.new.channels ≡ others name.now self.old.channels) }
         ensures gone { OnOk result (lookup (is_name name.now) self.new.channels ≡ None) }
@@ -81,7 +82,8 @@ impl Owner {
     ) -> Result<(), NoMemory>
         ensures desk { OnOk result (self.new.desk ≡ self.old.desk) }
         ensures channels { OnOk result (self.new.channels ≡ put_back name stays channel self.old.channels) }
-        ensures fresh { OnOk result (lookup (is_name name) self.old.channels ≡ None → NoneExpired self.old.desk.clock channel.backlog.entries → IsFresh name self.new) }
+        ensures fresh { OnOk result (lookup (is_name name) self.old.channels ≡ None
+            → NoneExpired self.old.desk.clock channel.backlog.entries → IsFresh name self.new) }
     {
         put_back(&mut self.channels, name, channel, stays)?;
         Ok(())

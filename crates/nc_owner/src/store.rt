@@ -1,6 +1,6 @@
 //! A message is stored, and those who wait for it are told.
 ghost use Rattle.std.specs.Prelude.{◌≡◌, ◌<◌, ◌≤◌, ◌∷◌, ◌++◌, [], IfOk, OnOk, true, fold, map, length, max, Some};
-ghost use Rattle.nc_types.specs.Id.{IsPast};
+ghost use Rattle.nc_types.specs.Id.{IsPast, latest_clock};
 ghost use Rattle.nc_types.specs.Message.{IsContentType};
 ghost use Rattle.nc_journal.specs.Stamp.{expiry};
 ghost use Rattle.nc_slots.specs.Slot.{lowest_unused};
@@ -10,8 +10,8 @@ ghost use Rattle.nc_owner.specs.AlertLines.{out_lines};
 ghost use Rattle.nc_owner.specs.Poll.{AnswersFit, slot_of, told_answer};
 ghost use Rattle.nc_owner.specs.Pool.{SameOthers};
 ghost use Rattle.nc_owner.specs.PublishClauses.{IsStored};
-ghost use Rattle.nc_owner.specs.Publish.{kept_backlog, kept_desk, kept_row, leaving, left_slots, lowest_slot, message_of, notices, one_hold, slots_of, stamp, stored_bench, stored_events};
-ghost use Rattle.nc_owner.specs.State.{at};
+ghost use Rattle.nc_owner.specs.Publish.{kept_backlog, kept_desk, kept_row, leaving, left_slots, lowest_slot, message_of_order, notices, one_hold, slots_of, stamp, stored_bench, stored_events};
+ghost use Rattle.nc_owner.specs.State.{bench_from};
 
 use crate::channel::Channel;
 use crate::desk::Desk;
@@ -29,7 +29,7 @@ use std::alloc::Global;
 
 /// When a message expires that is stored now; 0 is never.
 fn expiry(now: u64, timeout: u64) -> u64
-    requires now { now ≤ 4102444800 }
+    requires now { now ≤ latest_clock }
     requires timeout { timeout ≤ 1000000000 }
     ensures { result ≡ expiry now timeout }
 {
@@ -40,7 +40,8 @@ fn expiry(now: u64, timeout: u64) -> u64
 fn enter(desk: &mut Desk, news: &News, channel: &mut Channel) -> Result<(), NoMemory>
     requires { IsPast news.now.id channel.old.backlog.last }
     ensures desk { OnOk result (desk.new ≡ kept_desk true news.now.slot desk.old) }
-    ensures channel { OnOk result (channel.new ≡ kept_backlog true (record { id = news.now.id; slot = news.now.slot; expires = news.now.expires; grants = length channel.old.marks }) channel.old) }
+    ensures channel { OnOk result (channel.new
+        ≡ kept_backlog true (record { id = news.now.id; slot = news.now.slot; expires = news.now.expires; grants = length channel.old.marks }) channel.old) }
 {
     let Ok(grants) = u32::try_from(channel.marks.len()) else {
         return Err(NoMemory);
@@ -109,14 +110,19 @@ fn store_message<P: Slots>(
 ) -> Result<(), NoMemory>
     requires timeout { order.timeout ≤ 1000000000 }
     requires content_type { IsContentType order.content_type }
-    requires id { id ≡ stamp (at desk.old (P.slots pool.old desk.old.me) channel.old) }
-    ensures events { OnOk result (events.new ≡ events.old ++ stored_events from order (lowest_slot (P.slots pool.old desk.old.me)) (at desk.old (P.slots pool.old desk.old.me) channel.old)) }
-    ensures alerts { OnOk result (out_lines alerts.new ≡ out_lines alerts.old ++ notices order.chan id (lowest_slot (P.slots pool.old desk.old.me)) desk.old.grants channel.old.marks) }
-    ensures bench { OnOk result (at desk.new (P.slots pool.new desk.old.me) channel.new ≡ stored_bench order (lowest_slot (P.slots pool.old desk.old.me)) (at desk.old (P.slots pool.old desk.old.me) channel.old)) }
+    requires id { id ≡ stamp (bench_from desk.old (P.slots pool.old desk.old.me) channel.old) }
+    ensures events { OnOk result (events.new ≡ events.old
+        ++ stored_events from order (lowest_slot (P.slots pool.old desk.old.me)) (bench_from desk.old (P.slots pool.old desk.old.me) channel.old)) }
+    ensures alerts { OnOk result (out_lines alerts.new
+        ≡ out_lines alerts.old ++ notices order.chan id (lowest_slot (P.slots pool.old desk.old.me)) desk.old.grants channel.old.marks) }
+    ensures bench { OnOk result (bench_from desk.new (P.slots pool.new desk.old.me) channel.new
+        ≡ stored_bench order (lowest_slot (P.slots pool.old desk.old.me)) (bench_from desk.old (P.slots pool.old desk.old.me) channel.old)) }
     ensures taken { OnOk result (lowest_unused (P.slots pool.old desk.old.me) ≡ Some (lowest_slot (P.slots pool.old desk.old.me))) }
-    ensures carries { OnOk result (AllCarry P.held desk.old.me (message_of id order desk.old.clock) alerts.old → AllCarry P.held desk.old.me (message_of id order desk.old.clock) alerts.new) }
+    ensures carries { OnOk result (AllCarry P.held desk.old.me (message_of_order id order desk.old.clock) alerts.old
+        → AllCarry P.held desk.old.me (message_of_order id order desk.old.clock) alerts.new) }
     ensures others { OnOk result (SameOthers desk.old.me (P.slots pool.old) (P.slots pool.new)) }
-    ensures holds { OnOk result (P.exact ≡ true → P.holds pool.new desk.old.me ≡ fold (one_hold (lowest_slot (P.slots pool.old desk.old.me))) (P.holds pool.old desk.old.me) channel.old.marks) }
+    ensures holds { OnOk result (P.exact ≡ true
+        → P.holds pool.new desk.old.me ≡ fold (one_hold (lowest_slot (P.slots pool.old desk.old.me))) (P.holds pool.old desk.old.me) channel.old.marks) }
     ensures other_holds { OnOk result (P.exact ≡ true → SameOthers desk.old.me (P.holds pool.old) (P.holds pool.new)) }
 {
     let is_kept = order.length != 0;
@@ -142,11 +148,12 @@ pub(crate) fn store<P: Slots>(
 ) -> Result<(Done<P::Hold>, Vec<PollAnswer>), NoMemory>
     requires timeout { order.timeout ≤ 1000000000 }
     requires content_type { IsContentType order.content_type }
-    requires id { id ≡ stamp (at desk.old (P.slots pool.old desk.old.me) channel.old) }
-    ensures stored { IfOk result (λ r. IsStored P.held P.exact from desk.old.me order r.1.items (at desk.old (P.slots pool.old desk.old.me) channel.old) (P.slots pool.old) (P.slots pool.new) (P.holds pool.old) (P.holds pool.new) events r.0.events.events r.0.alerts (at desk.new (P.slots pool.new desk.old.me) channel.new)) }
-    ensures each { IfOk result (λ r. map slot_of r.1.items ≡ ascending (slots_of (leaving order.length (at desk.old (P.slots pool.old desk.old.me) channel.old)))) }
-    ensures fit { IfOk result (λ r. AnswersFit (left_slots order.length (at desk.old (P.slots pool.old desk.old.me) channel.old)) r.1.items) }
-    ensures told { IfOk result (λ r. P.exact ≡ true → r.1.items ≡ map (told_answer (P.holds pool.old desk.old.me)) (ascending (slots_of (leaving order.length (at desk.old (P.slots pool.old desk.old.me) channel.old))))) }
+    requires id { id ≡ stamp (bench_from desk.old (P.slots pool.old desk.old.me) channel.old) }
+    ensures stored { IfOk result (λ r. IsStored P.held P.exact from desk.old.me order r.1.items (bench_from desk.old (P.slots pool.old desk.old.me) channel.old) (P.slots pool.old) (P.slots pool.new) (P.holds pool.old) (P.holds pool.new) events r.0.events.events r.0.alerts (bench_from desk.new (P.slots pool.new desk.old.me) channel.new)) }
+    ensures each { IfOk result (λ r. map slot_of r.1.items
+        ≡ ascending (slots_of (leaving order.length (bench_from desk.old (P.slots pool.old desk.old.me) channel.old)))) }
+    ensures fit { IfOk result (λ r. AnswersFit (left_slots order.length (bench_from desk.old (P.slots pool.old desk.old.me) channel.old)) r.1.items) }
+    ensures told { IfOk result (λ r. P.exact ≡ true → r.1.items ≡ map (told_answer (P.holds pool.old desk.old.me)) (ascending (slots_of (leaving order.length (bench_from desk.old (P.slots pool.old desk.old.me) channel.old))))) }
 {
     let mut events = events;
     let mut alerts = List::new(alloc);

@@ -1,6 +1,6 @@
 -- A history on which the events of a step on one channel are put tells the owner after the step.
 use Rattle.std.proofs.Common.{◌≡◌, ℕ, ◌+◌, ◌<◌, Bool, true, false, cond, List, [], ◌∷◌, Some, None, refl, sym, ap, ◌∙◌, subst, arith, fold, Ordering}
-use Rattle.std.specs.Prelude.{◌&&◌}
+use Rattle.std.specs.Prelude.{◌&&◌, bytes_eq}
 use Rattle.std.specs.Ordering.{nat_cmp, is_eq, MatchOrdering}
 use Rattle.std.specs.Cmp.Lexicographic.{slice_cmp, same_text}
 use Rattle.std.specs.List.{AllByRecursion, flat_map}
@@ -9,7 +9,6 @@ use Rattle.std.specs.Map.{keys_of, values_of, lookup}
 use Rattle.std.proofs.lemmas.Bool.{eq-eqb, ne_eqb}
 use Rattle.std.proofs.lemmas.Cmp.{nat_list_cmp_total, same_from_slice_cmp, ranked}
 use Rattle.std.specs.declared.cmp.Ordering.TheVariants.{Less, Equal, Greater}
-use Rattle.nc_types.specs.Channel.{name_eq}
 use Rattle.nc_journal.specs.History.{onto}
 use Rattle.nc_journal.specs.declared.event.Event.{Event}
 use Rattle.nc_journal.specs.declared.event.Event.TheVariants.{Removed, Stored}
@@ -18,7 +17,7 @@ use Rattle.nc_owner.specs.declared.desk.Desk.{Desk}
 use Rattle.nc_owner.specs.State.{OwnerAt, Bench, entries_of, is_name, found, others, after}
 use Rattle.nc_owner_laws.specs.Used.{times}
 use Rattle.nc_owner_laws.specs.Kept.{slots_in}
-use Rattle.nc_owner_laws.specs.OwnerTold.{desk_with, channel_with, desk_of, channel_of, Tells}
+use Rattle.nc_owner_laws.specs.OwnerTold.{desk_with, channel_with, desk_of, channel_of, HistoryTells}
 use Rattle.nc_owner_laws.proofs.Used.{times-append}
 use Rattle.nc_owner_laws.proofs.Leaving.{slots_append}
 use Rattle.nc_owner_laws.proofs.Shelf.{lookup_removed, lookup_inserted, lookup_other}
@@ -50,13 +49,13 @@ onto_channel first c (e ∷ es) h n =
 
 -- ---- names
 
-more : (x y : ℕ) (xs ys : List ℕ) (o : Ordering) → o ≡ nat_cmp x y → MatchOrdering o (name_eq (x ∷ xs) (y ∷ ys) ≡ false) (name_eq (x ∷ xs) (y ∷ ys) ≡ name_eq xs ys) (name_eq (x ∷ xs) (y ∷ ys) ≡ false)
-more x y xs ys Less e = let r : x < y = ranked x y Less e in ap (λ b. b && name_eq xs ys) (ne_eqb x y (λ same. omega (arith, r, same)))
-more x y xs ys Equal e = let r : x ≡ y = ranked x y Equal e in ap (λ b. b && name_eq xs ys) (eq-eqb x y r)
-more x y xs ys Greater e = let r : y < x = ranked x y Greater e in ap (λ b. b && name_eq xs ys) (ne_eqb x y (λ same. omega (arith, r, same)))
+more : (x y : ℕ) (xs ys : List ℕ) (o : Ordering) → o ≡ nat_cmp x y → MatchOrdering o (bytes_eq (x ∷ xs) (y ∷ ys) ≡ false) (bytes_eq (x ∷ xs) (y ∷ ys) ≡ bytes_eq xs ys) (bytes_eq (x ∷ xs) (y ∷ ys) ≡ false)
+more x y xs ys Less e = let r : x < y = ranked x y Less e in ap (λ b. b && bytes_eq xs ys) (ne_eqb x y (λ same. omega (arith, r, same)))
+more x y xs ys Equal e = let r : x ≡ y = ranked x y Equal e in ap (λ b. b && bytes_eq xs ys) (eq-eqb x y r)
+more x y xs ys Greater e = let r : y < x = ranked x y Greater e in ap (λ b. b && bytes_eq xs ys) (ne_eqb x y (λ same. omega (arith, r, same)))
 
-pub name_is : (c d : List ℕ) → is_eq (slice_cmp nat_cmp c d) ≡ name_eq c d
-name_is c d = same_from_slice_cmp nat_cmp is_eq name_eq refl (λ y ys. refl) (λ x xs. refl) more c d (slice_cmp nat_cmp c d) refl
+pub name_is : (c d : List ℕ) → is_eq (slice_cmp nat_cmp c d) ≡ bytes_eq c d
+name_is c d = same_from_slice_cmp nat_cmp is_eq bytes_eq refl (λ y ys. refl) (λ x xs. refl) more c d (slice_cmp nat_cmp c d) refl
 
 -- what is found after a step
 pub found_after : (c d : List ℕ) (stays : Bool) (b : Bench) (s : OwnerAt) → IsStrictlySortedBy (slice_cmp nat_cmp) (keys_of s.channels) → found d (after c stays b s) ≡ cond (is_eq (slice_cmp nat_cmp c d)) (cond stays (Some b.channel) None) (found d s)
@@ -72,18 +71,18 @@ found_after c d false b s sorted = lookup_other nat_list_cmp_total d c s.channel
 
 -- ---- a step on one channel
 
-pub after_tells : (first : Desk) (h es : List Event) (c : List ℕ) (stays : Bool) (b : Bench) (s : OwnerAt) → IsStrictlySortedBy (slice_cmp nat_cmp) (keys_of s.channels) → Tells first h s → AllByRecursion Stays es
-    → fold desk_with s.desk es ≡ b.desk → fold (channel_with c s.desk.spent) (found c s) es ≡ cond stays (Some b.channel) None → ((d : List ℕ) → name_eq c d ≡ false → fold (channel_with d s.desk.spent) (found d s) es ≡ found d s)
-    → Tells first (onto es h) (after c stays b s)
+pub after_tells : (first : Desk) (h es : List Event) (c : List ℕ) (stays : Bool) (b : Bench) (s : OwnerAt) → IsStrictlySortedBy (slice_cmp nat_cmp) (keys_of s.channels) → HistoryTells first h s → AllByRecursion Stays es
+    → fold desk_with s.desk es ≡ b.desk → fold (channel_with c s.desk.spent) (found c s) es ≡ cond stays (Some b.channel) None → ((d : List ℕ) → bytes_eq c d ≡ false → fold (channel_with d s.desk.spent) (found d s) es ≡ found d s)
+    → HistoryTells first (onto es h) (after c stays b s)
 after_tells first h es c stays b s sorted t keeps desk own others = record {
   desk = sym desk ∙ ap (λ d. fold desk_with d es) t.desk ∙ sym (onto_desk first es h);
-  channels = λ d. found_after c d stays b s sorted ∙ ap (λ x. cond x (cond stays (Some b.channel) None) (found d s)) (name_is c d) ∙ by d (name_eq c d) refl ∙ told d;
+  channels = λ d. found_after c d stays b s sorted ∙ ap (λ x. cond x (cond stays (Some b.channel) None) (found d s)) (name_is c d) ∙ by d (bytes_eq c d) refl ∙ told d;
 }
   where
     told : (d : List ℕ) → fold (channel_with d s.desk.spent) (found d s) es ≡ channel_of first d (onto es h)
     told d = ap (λ k. fold (channel_with d k.spent) (found d s) es) t.desk ∙ ap (λ o. fold (channel_with d (desk_of first h).spent) o es) (t.channels d) ∙ sym (onto_channel first d es h keeps)
 
-    by : (d : List ℕ) (x : Bool) → name_eq c d ≡ x → cond x (cond stays (Some b.channel) None) (found d s) ≡ fold (channel_with d s.desk.spent) (found d s) es
+    by : (d : List ℕ) (x : Bool) → bytes_eq c d ≡ x → cond x (cond stays (Some b.channel) None) (found d s) ≡ fold (channel_with d s.desk.spent) (found d s) es
     by d true e = subst (λ (n : List ℕ). cond stays (Some b.channel) None ≡ fold (channel_with n s.desk.spent) (found n s) es) (same_text c d (sym e)) (sym own)
     by d false e = sym (others d e)
 
@@ -103,7 +102,7 @@ lookup_without k test (e ∷ es) a = by (test e.0) (lookup_without k test es a.1
     by true h = a.0
     by false h = h
 
-pub other_without : (c d : List ℕ) (k : ℕ) (s : OwnerAt) → IsStrictlySortedBy (slice_cmp nat_cmp) (keys_of s.channels) → name_eq c d ≡ false → times k (slots_in (rest_of c s)) ≡ 0 → IsWithout k (found d s)
+pub other_without : (c d : List ℕ) (k : ℕ) (s : OwnerAt) → IsStrictlySortedBy (slice_cmp nat_cmp) (keys_of s.channels) → bytes_eq c d ≡ false → times k (slots_in (rest_of c s)) ≡ 0 → IsWithout k (found d s)
 other_without c d k s sorted n none =
     subst (IsWithout k) (lookup_other nat_list_cmp_total d c s.channels sorted ∙ ap (λ b. cond b None (found d s)) (name_is c d ∙ n))
     (lookup_without k (is_name d) (others c s.channels) (none_each k (values_of (others c s.channels)) none))

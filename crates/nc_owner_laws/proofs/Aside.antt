@@ -9,7 +9,7 @@ use Rattle.nc_journal.specs.declared.alert.AlertLine.{AlertLine}
 use Rattle.nc_journal.specs.declared.alert.AlertLine.TheVariants as lines
 use Rattle.nc_owner.specs.declared.desk.Desk.{Desk}
 use Rattle.nc_owner.specs.State.{OwnerAt}
-use Rattle.nc_owner_laws.specs.OwnerTold.{Tells}
+use Rattle.nc_owner_laws.specs.OwnerTold.{HistoryTells}
 use Rattle.nc_owner_laws.specs.Buffered.{LeavesStored}
 use Rattle.nc_owner_laws.specs.Wake.{Wake, NotYet, hear, hears, made_to, Wakes}
 use Rattle.nc_owner_laws.specs.OwnerStanding.{NothingPast}
@@ -17,7 +17,7 @@ use Rattle.nc_owner_laws.specs.InOrder.{LooksAt, DrawsNext, AnswersLook, Answers
 use Rattle.nc_owner_laws.specs.AnsweredOnce.{IsNewAnswer, AnswersNew}
 use Rattle.nc_owner_laws.specs.Aside.{IsPlainLine, IsAside, AsideStands, AsideInOrder, AsideAnswersNew}
 
-aside_tells : (first : Desk) (h : List Event) (s : OwnerAt) (e : Event) → IsAside e → Tells first h s → Tells first (e ∷ h) s
+aside_tells : (first : Desk) (h : List Event) (s : OwnerAt) (e : Event) → IsAside e → HistoryTells first h s → HistoryTells first (e ∷ h) s
 aside_tells first h s (Clock w t) p k = absurd p
 aside_tells first h s (Joined w c from n) p k = absurd p
 aside_tells first h s (Parted w c from n) p k = absurd p

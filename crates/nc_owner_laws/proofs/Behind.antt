@@ -1,15 +1,14 @@
 -- What stands behind a look that found nothing.
 use Rattle.std.proofs.Common.{◌≡◌, ℕ, suc, ◌≤◌, Bool, true, false, cond, List, [], ◌∷◌, ◌++◌, Option, Some, None, refl, sym, ap, ◌∙◌, subst, arith, length, find}
-use Rattle.std.specs.Prelude.{◌&&◌, ◌==◌, IfSome}
+use Rattle.std.specs.Prelude.{◌&&◌, ◌==◌, IfSome, bytes_eq}
 use Rattle.std.specs.Option.{option_map}
 use Rattle.std.specs.List.{AllByRecursion}
 use Rattle.std.specs.Cmp.Lexicographic.{same_text}
 use Rattle.std.proofs.lemmas.Bool.{and_parts, eqb-true}
 use Rattle.nc_types.specs.Id.{Id, IsPast, is_past}
-use Rattle.nc_types.specs.Channel.{name_eq}
 use Rattle.nc_journal.specs.History.{own, is_by, Along}
 use Rattle.nc_journal.specs.Stamp.{floor_of}
-use Rattle.nc_journal.specs.Message.{Message, message_of, published, buffer, IsRising}
+use Rattle.nc_journal.specs.Message.{Message, stored_message, published, buffer, IsRising}
 use Rattle.nc_journal.specs.declared.event.Event.{Event}
 use Rattle.nc_journal.specs.declared.event.Event.TheVariants.{Stored, Looked, Removed}
 use Rattle.nc_journal.proofs.Buffers.{published-append}
@@ -98,7 +97,7 @@ none_case after (m ∷ ms) e = by (is_past m.id after) refl (none_case after ms)
 
 -- the look itself
 here_place : (me w : ℕ) (c : List ℕ) (q : ℕ) (v p u number : ℕ) (d : List ℕ) (after : Id) (floor : ℕ) (h : List Event) → v ≡ me → p ≡ q → u ≡ w → d ≡ c → TellsThen d after floor None h
-    → ((p == q) && ((u == w) && name_eq d c)) ≡ true → LookPlace me w c q (Looked v p u number d after floor None ∷ h)
+    → ((p == q) && ((u == w) && bytes_eq d c)) ≡ true → LookPlace me w c q (Looked v p u number d after floor None ∷ h)
 here_place me w c q v p u number d after floor h ev ep eu ed t b = record {
   since = [];
   number = number;
@@ -119,12 +118,12 @@ pub wake_removed : (n : Bool) (t : Wake) → (cond n (woken ByGone t) t ≡ NotY
 wake_removed true t f e = f (ap (woken ByGone) e)
 wake_removed false t f e = f e
 
-none_since : (b : Bool) (me w : ℕ) (c : List ℕ) (q : ℕ) (v p u number : ℕ) (d : List ℕ) (after : Id) (floor : ℕ) (h : List Event) → ((p == q) && ((u == w) && name_eq d c)) ≡ b → v ≡ me → TellsThen d after floor None h
-    → ((wake w c q h ≡ NotYet → ⊥) → Since me w c q h) → (cond ((p == q) && ((u == w) && name_eq d c)) Waiting (wake w c q h) ≡ NotYet → ⊥) → Since me w c q (Looked v p u number d after floor None ∷ h)
+none_since : (b : Bool) (me w : ℕ) (c : List ℕ) (q : ℕ) (v p u number : ℕ) (d : List ℕ) (after : Id) (floor : ℕ) (h : List Event) → ((p == q) && ((u == w) && bytes_eq d c)) ≡ b → v ≡ me → TellsThen d after floor None h
+    → ((wake w c q h ≡ NotYet → ⊥) → Since me w c q h) → (cond ((p == q) && ((u == w) && bytes_eq d c)) Waiting (wake w c q h) ≡ NotYet → ⊥) → Since me w c q (Looked v p u number d after floor None ∷ h)
 unfolding later_place here_place
 none_since true me w c q v p u number d after floor h is by_me t rest n =
-    let a = and_parts (p == q) ((u == w) && name_eq d c) is in
-    let b = and_parts (u == w) (name_eq d c) a.1 in
+    let a = and_parts (p == q) ((u == w) && bytes_eq d c) is in
+    let b = and_parts (u == w) (bytes_eq d c) a.1 in
     record {
       look = here_place me w c q v p u number d after floor h by_me (eqb-true p q a.0) (eqb-true u w b.0) (same_text d c (sym b.1)) t is;
       shows = subst (λ (x : Bool). ShowsSince (cond x Waiting (wake w c q h)) []) (sym is) refl;
@@ -140,20 +139,20 @@ since_of : (me w : ℕ) (c : List ℕ) (q : ℕ) (h : List Event) → Along Look
 unfolding later_place
 since_of me w c q [] a o n = absurd (n refl)
 since_of me w c q (Stored v d id slot len exp kept members from r ct body ∷ h) a o n =
-    let k = since_of me w c q h a.0 (own_parts me (Stored v d id slot len exp kept members from r ct body) h o).1 (wake_stored (name_eq d c) id (wake w c q h) n) in
+    let k = since_of me w c q h a.0 (own_parts me (Stored v d id slot len exp kept members from r ct body) h o).1 (wake_stored (bytes_eq d c) id (wake w c q h) n) in
     record {
       look = later_place me w c q (Stored v d id slot len exp kept members from r ct body) h k.look refl;
-      shows = stored_shows (name_eq d c) (message_of id slot exp ct body) (wake w c q h) (published c k.look.since) k.shows;
+      shows = stored_shows (bytes_eq d c) (stored_message id slot exp ct body) (wake w c q h) (published c k.look.since) k.shows;
     }
 since_of me w c q (Removed v d last cause ∷ h) a o n =
-    let k = since_of me w c q h a.0 (own_parts me (Removed v d last cause) h o).1 (wake_removed (name_eq d c) (wake w c q h) n) in
+    let k = since_of me w c q h a.0 (own_parts me (Removed v d last cause) h o).1 (wake_removed (bytes_eq d c) (wake w c q h) n) in
     record {
       look = later_place me w c q (Removed v d last cause) h k.look refl;
-      shows = removed_shows (name_eq d c) (wake w c q h) (published c k.look.since) k.shows;
+      shows = removed_shows (bytes_eq d c) (wake w c q h) (published c k.look.since) k.shows;
     }
 since_of me w c q (Looked v p u number d after floor None ∷ h) a o n =
     let r = own_parts me (Looked v p u number d after floor None) h o in
-    none_since ((p == q) && ((u == w) && name_eq d c)) me w c q v p u number d after floor h refl (sym (eqb-true me v r.0)) a.1 (since_of me w c q h a.0 r.1) n
+    none_since ((p == q) && ((u == w) && bytes_eq d c)) me w c q v p u number d after floor h refl (sym (eqb-true me v r.0)) a.1 (since_of me w c q h a.0 r.1) n
 since_of me w c q (e ∷ h) a o n =
     let k = since_of me w c q h a.0 (own_parts me e h o).1 n in
     record { look = later_place me w c q e h k.look refl; shows = k.shows }

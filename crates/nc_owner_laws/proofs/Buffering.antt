@@ -1,6 +1,6 @@
 -- A channel has the entries of its buffer.
 use Rattle.std.proofs.Common.{◌≡◌, inl, inr, ⊎_elim, ℕ, ◌+◌, Bool, true, false, cond, not, List, [], ◌∷◌, ◌++◌, Option, Some, None, refl, sym, ap, ◌∙◌, subst, arith, map, filter}
-use Rattle.std.specs.Prelude.{unwrap_or, ◌&&◌, ◌||◌, ◌==◌}
+use Rattle.std.specs.Prelude.{unwrap_or, ◌&&◌, ◌||◌, ◌==◌, bytes_eq}
 use Rattle.std.specs.Option.{option_map}
 use Rattle.std.specs.List.{AllByRecursion}
 use Rattle.std.specs.Cmp.Lexicographic.{same_text}
@@ -9,10 +9,9 @@ use Rattle.std.proofs.lemmas.Int.{ints}
 use Rattle.std.proofs.lemmas.List.{map-append}
 use Rattle.std.proofs.lemmas.List.Elements.{filter-append}
 use Rattle.nc_types.specs.Id.{Id, IsPast, id_eq}
-use Rattle.nc_types.specs.Channel.{name_eq}
 use Rattle.nc_journal.specs.History.{Along}
 use Rattle.nc_journal.specs.Stamp.{IsStamped, IsStamp}
-use Rattle.nc_journal.specs.Message.{Message, message_of, published, is_gone, buffer}
+use Rattle.nc_journal.specs.Message.{Message, stored_message, published, is_gone, buffer}
 use Rattle.nc_journal.specs.Sending.{HasId}
 use Rattle.nc_journal.proofs.Rising.{stored-past}
 use Rattle.nc_journal.specs.declared.event.Event.{Event}
@@ -88,18 +87,18 @@ gone_stored : (c : List ℕ) (id : Id) (h : List Event) → Along LeavesStored h
 gone_stored c id [] l g = absurd (true≢false (sym g))
 gone_stored c id (Stored w d m slot len exp kept members from r ct body ∷ h) l g =
     ⊎_elim
-    (λ (e : (not kept && (name_eq d c && id_eq m id)) ≡ true).
-    let p = and_parts (name_eq d c) (id_eq m id) (and_parts (not kept) (name_eq d c && id_eq m id) e).1 in
-    has_this (name_eq d c) (published c h) (message_of m slot exp ct body) id p.0 (id_is m id p.1))
-    (λ (e : is_gone c id h ≡ true). has_more (name_eq d c) (published c h) (message_of m slot exp ct body) id (gone_stored c id h l.0 e))
-    (or_cases (not kept && (name_eq d c && id_eq m id)) (is_gone c id h) g)
+    (λ (e : (not kept && (bytes_eq d c && id_eq m id)) ≡ true).
+    let p = and_parts (bytes_eq d c) (id_eq m id) (and_parts (not kept) (bytes_eq d c && id_eq m id) e).1 in
+    has_this (bytes_eq d c) (published c h) (stored_message m slot exp ct body) id p.0 (id_is m id p.1))
+    (λ (e : is_gone c id h ≡ true). has_more (bytes_eq d c) (published c h) (stored_message m slot exp ct body) id (gone_stored c id h l.0 e))
+    (or_cases (not kept && (bytes_eq d c && id_eq m id)) (is_gone c id h) g)
 gone_stored c id (Left w d m slot cause ∷ h) l g =
     ⊎_elim
-    (λ (e : (name_eq d c && id_eq m id) ≡ true).
-    let p = and_parts (name_eq d c) (id_eq m id) e in
+    (λ (e : (bytes_eq d c && id_eq m id) ≡ true).
+    let p = and_parts (bytes_eq d c) (id_eq m id) e in
     subst (λ (n : List ℕ). HasId (published n h) id) (same_text d c (sym p.0)) (subst (HasId (published d h)) (id_is m id p.1) l.1))
     (λ (e : is_gone c id h ≡ true). gone_stored c id h l.0 e)
-    (or_cases (name_eq d c && id_eq m id) (is_gone c id h) g)
+    (or_cases (bytes_eq d c && id_eq m id) (is_gone c id h) g)
 gone_stored c id (e ∷ h) l g = gone_stored c id h l.0 g
 
 has_past : (ms : List Message) (id old : Id) → AllByRecursion (λ m. IsPast id m.id) ms → HasId ms old → IsPast id old
@@ -216,29 +215,29 @@ buffer_law me workers slots first c (Stored w d id slot len exp kept members fro
     let o = channel_of (new_desk me workers slots first) c h in
     let sp = (desk_of (new_desk me workers slots first) h).spent in
     let e = new_entry id slot exp in
-    let m = message_of id slot exp ct body in
-    ap (map brief_entry) (stored_entries (name_eq d c) kept e o sp)
-    ∙ stored_both (name_eq d c) kept e m (entries_in o) (buffer c h) refl (buffer_law me workers slots first c h s.0 l.0)
-    ∙ ap (map brief_message) (sym (stored_buffer (name_eq d c) kept c m h
+    let m = stored_message id slot exp ct body in
+    ap (map brief_entry) (stored_entries (bytes_eq d c) kept e o sp)
+    ∙ stored_both (bytes_eq d c) kept e m (entries_in o) (buffer c h) refl (buffer_law me workers slots first c h s.0 l.0)
+    ∙ ap (map brief_message) (sym (stored_buffer (bytes_eq d c) kept c m h
     (λ is. subst (λ (n : List ℕ). AllByRecursion (λ x. IsPast id x.id) (published n h)) (same_text d c (sym is)) (stored-past workers w d id h s.0 s.1))
     (λ is. subst (λ (n : List ℕ). is_gone n id h ≡ false) (same_text d c (sym is)) (not_gone workers w d id h s.0 l.0 s.1))))
 buffer_law me workers slots first c (Left w d id slot cause ∷ h) s l =
     let o = channel_of (new_desk me workers slots first) c h in
-    ap (map brief_entry) (left_entries (name_eq d c) id o)
-    ∙ left_both (name_eq d c) id (entries_in o) (buffer c h) (buffer_law me workers slots first c h s.0 l.0)
-    ∙ ap (map brief_message) (sym (left_buffer (name_eq d c) c id h))
+    ap (map brief_entry) (left_entries (bytes_eq d c) id o)
+    ∙ left_both (bytes_eq d c) id (entries_in o) (buffer c h) (buffer_law me workers slots first c h s.0 l.0)
+    ∙ ap (map brief_message) (sym (left_buffer (bytes_eq d c) c id h))
 buffer_law me workers slots first c (Looked w q from number d after floor past ∷ h) s l =
     let o = channel_of (new_desk me workers slots first) c h in
     let ch = unwrap_or o (made (desk_of (new_desk me workers slots first) h).spent) in
-    ap (map brief_entry) (same_entries (name_eq d c) (Some (with_look from past ch)) o (look_entries from past ch ∙ made_entries o (desk_of (new_desk me workers slots first) h).spent)) ∙ buffer_law me workers slots first c h s.0 l.0
+    ap (map brief_entry) (same_entries (bytes_eq d c) (Some (with_look from past ch)) o (look_entries from past ch ∙ made_entries o (desk_of (new_desk me workers slots first) h).spent)) ∙ buffer_law me workers slots first c h s.0 l.0
 buffer_law me workers slots first c (Joined w d from k ∷ h) s l =
     let o = channel_of (new_desk me workers slots first) c h in
     let sp = (desk_of (new_desk me workers slots first) h).spent in
-    ap (map brief_entry) (same_entries (name_eq d c) (Some (joined_channel (record { from = from; k = k }) (unwrap_or o (made sp)))) o (made_entries o sp)) ∙ buffer_law me workers slots first c h s.0 l.0
+    ap (map brief_entry) (same_entries (bytes_eq d c) (Some (joined_channel (record { from = from; k = k }) (unwrap_or o (made sp)))) o (made_entries o sp)) ∙ buffer_law me workers slots first c h s.0 l.0
 buffer_law me workers slots first c (Parted w d from k ∷ h) s l =
     let o = channel_of (new_desk me workers slots first) c h in
-    ap (map brief_entry) (same_entries (name_eq d c) (option_map (parted_channel (record { from = from; k = k })) o) o (part_entries (parted_channel (record { from = from; k = k })) (λ ch. refl) o)) ∙ buffer_law me workers slots first c h s.0 l.0
+    ap (map brief_entry) (same_entries (bytes_eq d c) (option_map (parted_channel (record { from = from; k = k })) o) o (part_entries (parted_channel (record { from = from; k = k })) (λ ch. refl) o)) ∙ buffer_law me workers slots first c h s.0 l.0
 buffer_law me workers slots first c (Granted w g slot to ∷ h) s l = granted_brief slot (channel_of (new_desk me workers slots first) c h) ∙ buffer_law me workers slots first c h s.0 l.0
 buffer_law me workers slots first c (Removed w d last cause ∷ h) s l =
-    removed_both (name_eq d c) (channel_of (new_desk me workers slots first) c h) (buffer c h) (λ is. subst (λ (n : List ℕ). buffer n h ≡ []) (same_text d c (sym is)) l.1) (buffer_law me workers slots first c h s.0 l.0)
+    removed_both (bytes_eq d c) (channel_of (new_desk me workers slots first) c h) (buffer c h) (λ is. subst (λ (n : List ℕ). buffer n h ≡ []) (same_text d c (sym is)) l.1) (buffer_law me workers slots first c h s.0 l.0)
 buffer_law me workers slots first c (e ∷ h) s l = buffer_law me workers slots first c h s.0 l.0

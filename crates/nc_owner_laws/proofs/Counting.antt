@@ -28,7 +28,7 @@ use Rattle.nc_owner.specs.AlertLines.{OutLine}
 use Rattle.nc_owner.specs.State.{OwnerAt, Bench, entries_of, opened, bench_of}
 use Rattle.nc_owner.specs.Leave.{left_event, left_row, leavers, spend_events}
 use Rattle.nc_owner.specs.Poll.{polled_slot, polled_all, freed_event, free_slots, freed_events}
-use Rattle.nc_owner.specs.Publish.{Polls, Outcome, late, full, stored, asked, roomy, leaving, lowest_slot, granted_slot, granted_events, told_row, kept_row, stamp, message_of, stored_event, stored_events, roomy_events, post_events, post_bench, cleared_events, publish_cleared, publish_outcome, publish_events, publish_alerts, publish_row}
+use Rattle.nc_owner.specs.Publish.{Polls, Outcome, late, full, stored, asked, roomy, leaving, lowest_slot, granted_slot, granted_events, told_row, kept_row, stamp, message_of_order, stored_event, stored_events, roomy_events, post_events, post_bench, cleared_events, publish_cleared, publish_outcome, publish_events, publish_alerts, publish_row}
 use Rattle.nc_owner.specs.Look.{found_on, found_row, looked_event, found_events, answered_events, look_ready, look_events, look_alerts, look_row}
 use Rattle.nc_owner.specs.Edge.{last_in}
 use Rattle.nc_owner.specs.Remove.{removal_lefts, removal_events, removal_alerts, removed_row}
@@ -204,7 +204,7 @@ counted_post stored from o polls b =
     counted_then b.row ready.row new [] (roomy_events o.length polls.left o.chan ready ++ stored_events from o k room) (counted_polls polls.leaving b.row)
     (counted_then ready.row room.row new (lefts ++ frees) (stored_events from o k room)
     (counted_then ready.row gone room.row lefts frees (counted_lefts b.desk.me o.chan Length es ready.row) (counted_frees b.desk.me polls.left gone))
-    (counted_stored from o (stamp room) k (length room.channel.members) room.desk (not (o.length == 0)) (message_of (stamp room) o room.desk.clock) room.desk.grants room.channel.marks room.row))
+    (counted_stored from o (stamp room) k (length room.channel.members) room.desk (not (o.length == 0)) (message_of_order (stamp room) o room.desk.clock) room.desk.grants room.channel.marks room.row))
 
 counted_publish : (from : ℕ) (o : Order) (polls : Polls) (row : List (Slot Message)) (s : OwnerAt) → CountedBy row (publish_events from o polls row s) (publish_row o polls row s)
 counted_publish from o polls row s =

@@ -1,10 +1,9 @@
 -- Numbers of looks and of grants are drawn once.
 use Rattle.std.proofs.Common.{◌≡◌, inl, inr, ℕ, ◌+◌, ◌<◌, ◌≤◌, Bool, true, false, cond, List, [], ◌∷◌, ◌++◌, Option, Some, None, refl, sym, ap, ◌∙◌, subst, arith}
-use Rattle.std.specs.Prelude.{◌&&◌, ◌==◌}
+use Rattle.std.specs.Prelude.{◌&&◌, ◌==◌, bytes_eq}
 use Rattle.std.specs.List.{AllByRecursion}
 use Rattle.std.proofs.lemmas.Bool.{and_parts, eqb-true, ne_eqb}
 use Rattle.nc_types.specs.Id.{Id}
-use Rattle.nc_types.specs.Channel.{name_eq}
 use Rattle.nc_journal.specs.History.{Along}
 use Rattle.nc_journal.specs.declared.event.Event.{Event}
 use Rattle.nc_journal.specs.declared.event.Event.TheVariants.{Stored, Looked, Edged, Granted, Removed, Made}
@@ -66,19 +65,19 @@ below_case : (b : Bool) (p q next : ℕ) (t : Wake) → (b ≡ true → p ≡ q)
 below_case true p q next t same e rest n = omega (arith, same refl)
 below_case false p q next t same e rest n = omega (arith, rest n, e)
 
-same_number : (p q u w : ℕ) (d c : List ℕ) → ((p == q) && ((u == w) && name_eq d c)) ≡ true → p ≡ q
-same_number p q u w d c b = eqb-true p q (and_parts (p == q) ((u == w) && name_eq d c) b).0
+same_number : (p q u w : ℕ) (d c : List ℕ) → ((p == q) && ((u == w) && bytes_eq d c)) ≡ true → p ≡ q
+same_number p q u w d c b = eqb-true p q (and_parts (p == q) ((u == w) && bytes_eq d c) b).0
 
-same_name : (p q u w : ℕ) (d c : List ℕ) → ((p == q) && ((u == w) && name_eq d c)) ≡ true → name_eq d c ≡ true
-same_name p q u w d c b = (and_parts (u == w) (name_eq d c) (and_parts (p == q) ((u == w) && name_eq d c) b).1).1
+same_name : (p q u w : ℕ) (d c : List ℕ) → ((p == q) && ((u == w) && bytes_eq d c)) ≡ true → bytes_eq d c ≡ true
+same_name p q u w d c b = (and_parts (u == w) (bytes_eq d c) (and_parts (p == q) ((u == w) && bytes_eq d c) b).1).1
 
 made_below : (first w : ℕ) (c : List ℕ) (q : ℕ) (h : List Event) → Along (DrawsNext first) h → (wake w c q h ≡ NotYet → ⊥) → q < next_look first h
 made_below first w c q [] a n = absurd (n refl)
-made_below first w c q (Looked v p u number d after floor None ∷ h) a n = below_case ((p == q) && ((u == w) && name_eq d c)) p q (next_look first h) (wake w c q h) (same_number p q u w d c) a.1 (made_below first w c q h a.0) n
+made_below first w c q (Looked v p u number d after floor None ∷ h) a n = below_case ((p == q) && ((u == w) && bytes_eq d c)) p q (next_look first h) (wake w c q h) (same_number p q u w d c) a.1 (made_below first w c q h a.0) n
 made_below first w c q (Looked v p u number d after floor (Some id) ∷ h) a n = omega (arith, made_below first w c q h a.0 n, a.1)
 made_below first w c q (Edged v p u number k d floor last ∷ h) a n = omega (arith, made_below first w c q h a.0 n, a.1)
-made_below first w c q (Stored v d id slot len exp kept members from r ct body ∷ h) a n = made_below first w c q h a.0 (wake_stored (name_eq d c) id (wake w c q h) n)
-made_below first w c q (Removed v d last cause ∷ h) a n = made_below first w c q h a.0 (wake_removed (name_eq d c) (wake w c q h) n)
+made_below first w c q (Stored v d id slot len exp kept members from r ct body ∷ h) a n = made_below first w c q h a.0 (wake_stored (bytes_eq d c) id (wake w c q h) n)
+made_below first w c q (Removed v d last cause ∷ h) a n = made_below first w c q h a.0 (wake_removed (bytes_eq d c) (wake w c q h) n)
 made_below first w c q (e ∷ h) a n = made_below first w c q h a.0 n
 
 only_case : (b : Bool) (p q next : ℕ) (m : Bool) (t : Wake) (P : Type 0) → (b ≡ true → (p ≡ q) × (m ≡ true)) → p ≡ next → (p ≡ q → P) → ((t ≡ NotYet → ⊥) → P × (q < next)) → (cond b Waiting t ≡ NotYet → ⊥) → (p ≡ q → m ≡ true) × P
@@ -88,14 +87,14 @@ only_case false p q next m t P here e fresh rest n = let r = rest n in ((λ x. a
 only_at : (first w : ℕ) (c : List ℕ) (q : ℕ) (h : List Event) → Along (DrawsNext first) h → (wake w c q h ≡ NotYet → ⊥) → IsOnlyAt c q h
 only_at first w c q [] a n = tt
 only_at first w c q (Looked v p u number d after floor None ∷ h) a n =
-    only_case ((p == q) && ((u == w) && name_eq d c)) p q (next_look first h) (name_eq d c) (wake w c q h) (IsOnlyAt c q h)
+    only_case ((p == q) && ((u == w) && bytes_eq d c)) p q (next_look first h) (bytes_eq d c) (wake w c q h) (IsOnlyAt c q h)
     (λ b. (same_number p q u w d c b, same_name p q u w d c b)) a.1
     (λ e. only_none c q h (subst (λ (x : ℕ). AllByRecursion (λ m. m < x) (look_numbers h)) (sym a.1 ∙ e) (looks_drawn first h a.0).below))
     (λ m. (only_at first w c q h a.0 m, made_below first w c q h a.0 m)) n
 only_at first w c q (Looked v p u number d after floor (Some id) ∷ h) a n =
     ((λ e. absurd (let lt = made_below first w c q h a.0 n in omega (arith, lt, e, a.1))), only_at first w c q h a.0 n)
-only_at first w c q (Stored v d id slot len exp kept members from r ct body ∷ h) a n = only_at first w c q h a.0 (wake_stored (name_eq d c) id (wake w c q h) n)
-only_at first w c q (Removed v d last cause ∷ h) a n = only_at first w c q h a.0 (wake_removed (name_eq d c) (wake w c q h) n)
+only_at first w c q (Stored v d id slot len exp kept members from r ct body ∷ h) a n = only_at first w c q h a.0 (wake_stored (bytes_eq d c) id (wake w c q h) n)
+only_at first w c q (Removed v d last cause ∷ h) a n = only_at first w c q h a.0 (wake_removed (bytes_eq d c) (wake w c q h) n)
 only_at first w c q (e ∷ h) a n = only_at first w c q h a.0 n
 
 pub drawn_once : DrawnOnce

@@ -1,6 +1,6 @@
 -- What the events of a step tell of the desk and of a channel.
 use Rattle.std.proofs.Common.{◌≡◌, ℕ, zero, suc, ◌+◌, ◌-◌, ◌<◌, ◌≤◌, Bool, true, false, cond, not, List, [], ◌∷◌, ◌++◌, Option, Some, None, refl, sym, ap, ◌∙◌, subst, arith, length, map, filter, fold, take, drop, eqb}
-use Rattle.std.specs.Prelude.{unwrap_or}
+use Rattle.std.specs.Prelude.{unwrap_or, bytes_eq}
 use Rattle.std.specs.Option.{option_map}
 use Rattle.std.specs.List.{AllByRecursion, slice_get}
 use Rattle.std.proofs.lemmas.Bool.{true≢false, eq-eqb, ne_eqb}
@@ -8,7 +8,6 @@ use Rattle.std.proofs.lemmas.Cmp.{nat_list_eq_equiv}
 use Rattle.std.proofs.lemmas.Int.{ints}
 use Rattle.std.proofs.lemmas.List.{take-append-drop}
 use Rattle.nc_types.specs.Id.{Id, IsPast, id_eq}
-use Rattle.nc_types.specs.Channel.{name_eq}
 use Rattle.nc_journal.specs.declared.word.LeftCause.{LeftCause}
 use Rattle.nc_buffer.specs.declared.entry.Entry.{Entry}
 use Rattle.nc_buffer.specs.Buffer.{IsRising, with_grant}
@@ -29,7 +28,7 @@ use Rattle.nc_owner_laws.proofs.Gone.{without, Lacks, Apart, gone, front_gone}
 
 -- ---- names and ids
 
-pub name_self : (c : List ℕ) → name_eq c c ≡ true
+pub name_self : (c : List ℕ) → bytes_eq c c ≡ true
 name_self c = nat_list_eq_equiv.refl c
 
 pub id_self : (a : Id) → id_eq a a ≡ true
@@ -236,7 +235,7 @@ abbrev pub IsWithout : ℕ → Option Channel → Type 0
 IsWithout slot None = Unit {0}
 IsWithout slot (Some ch) = times slot (slots_in (entries_of ch)) ≡ 0
 
-pub other_left : (w : ℕ) (c d : List ℕ) (cause : LeftCause) (spent : Id) (o : Option Channel) (es : List Entry) → name_eq c d ≡ false → fold (channel_with d spent) o (map (left_event w c cause) es) ≡ o
+pub other_left : (w : ℕ) (c d : List ℕ) (cause : LeftCause) (spent : Id) (o : Option Channel) (es : List Entry) → bytes_eq c d ≡ false → fold (channel_with d spent) o (map (left_event w c cause) es) ≡ o
 other_left w c d cause spent o [] n = refl
 other_left w c d cause spent o (e ∷ es) n = ap (λ b. fold (channel_with d spent) (cond b (option_map (left_channel e.id) o) o) (map (left_event w c cause) es)) n ∙ other_left w c d cause spent o es n
 

@@ -19,9 +19,9 @@ use Rattle.nc_owner.specs.State.{OwnerAt, found}
 use Rattle.nc_owner.specs.Fence.{with_floor, raise_events}
 use Rattle.nc_owner.specs.Edge.{last_in, edged, edged_event, edge_line, edge_events, edge_alerts}
 use Rattle.nc_owner.specs.OtherSteps.{touch_events_of, touch_after}
-use Rattle.nc_owner_laws.specs.Fits.{Fits}
+use Rattle.nc_owner_laws.specs.OwnerFits.{OwnerFits}
 use Rattle.nc_owner_laws.specs.Filters.{new_desk}
-use Rattle.nc_owner_laws.specs.OwnerTold.{desk_of, channel_of, made, Tells}
+use Rattle.nc_owner_laws.specs.OwnerTold.{desk_of, channel_of, made, HistoryTells}
 use Rattle.nc_owner_laws.specs.Weave.{weave}
 use Rattle.nc_owner_laws.specs.Wake.{NotYet, hears, made_to}
 use Rattle.nc_owner_laws.specs.OwnerStanding.{Stands}
@@ -101,16 +101,16 @@ touch_looks c row s = refl
 
 -- ---- what they keep
 
-floor_fits : (fence : ℕ) (row : List (Slot Message)) (s : OwnerAt) → Fits row s → Fits row (with_floor fence s)
+floor_fits : (fence : ℕ) (row : List (Slot Message)) (s : OwnerAt) → OwnerFits row s → OwnerFits row (with_floor fence s)
 floor_fits fence row s f = record { names = f.names; slots = f.slots; apart = f.apart; number = f.number; kept = f.kept; regular = f.regular }
 
-edged_fits : (row : List (Slot Message)) (s : OwnerAt) → Fits row s → Fits row (edged s)
+edged_fits : (row : List (Slot Message)) (s : OwnerAt) → OwnerFits row s → OwnerFits row (edged s)
 edged_fits row s f = record { names = f.names; slots = f.slots; apart = f.apart; number = f.number; kept = f.kept; regular = f.regular }
 
-floor_tells : (first : Desk) (fence w : ℕ) (h : List Event) (s : OwnerAt) → Tells first h s → Tells first (Raised w fence ∷ h) (with_floor fence s)
+floor_tells : (first : Desk) (fence w : ℕ) (h : List Event) (s : OwnerAt) → HistoryTells first h s → HistoryTells first (Raised w fence ∷ h) (with_floor fence s)
 floor_tells first fence w h s t = record { desk = λ i. record (t.desk i) { floor = max (t.desk i).floor fence }; channels = t.channels }
 
-edged_tells : (first : Desk) (w v from n number k floor : ℕ) (c : List ℕ) (last : Id) (a : AlertLine) (h : List Event) (s : OwnerAt) → Tells first h s → Tells first (Made v from n a ∷ Edged w s.desk.looks from number k c floor last ∷ h) (edged s)
+edged_tells : (first : Desk) (w v from n number k floor : ℕ) (c : List ℕ) (last : Id) (a : AlertLine) (h : List Event) (s : OwnerAt) → HistoryTells first h s → HistoryTells first (Made v from n a ∷ Edged w s.desk.looks from number k c floor last ∷ h) (edged s)
 edged_tells first w v from n number k floor c last a h s t = record { desk = λ i. record (t.desk i) { looks = s.desk.looks + 1 }; channels = t.channels }
 
 -- the answer to an edge wakes no look

@@ -1,10 +1,9 @@
 -- What a history tells event by event is what the definitions filter from it.
 use Rattle.std.proofs.Common.{◌≡◌, ℕ, Bool, true, false, cond, not, max, List, [], ◌∷◌, Option, Some, None, refl, sym, ap, ◌∙◌, subst}
-use Rattle.std.specs.Prelude.{unwrap_or, ◌&&◌, ◌||◌, nat_eq}
+use Rattle.std.specs.Prelude.{unwrap_or, ◌&&◌, ◌||◌, nat_eq, bytes_eq}
 use Rattle.std.specs.Option.{option_map}
 use Rattle.std.specs.List.Sorted.{IsStrictlySortedBy}
 use Rattle.nc_types.specs.Id.{Id}
-use Rattle.nc_types.specs.Channel.{name_eq}
 use Rattle.nc_journal.specs.Stamp.{clock_of, floor_of, spent_of, made_last, greater_id}
 use Rattle.nc_journal.specs.declared.event.Event.{Event}
 use Rattle.nc_journal.specs.declared.event.Event.TheVariants.{Clock, Raised, Stored, Left, Looked, Joined, Parted, Granted, Removed}
@@ -74,22 +73,22 @@ stays_last false f e o a is = is
 
 pub last_law : (me workers slots first : ℕ) (c : List ℕ) (h : List Event) → last_in (channel_of (new_desk me workers slots first) c h) ≡ made_last c h
 last_law me workers slots first c [] = refl
-last_law me workers slots first c (Stored w d id slot len exp kept members from r ct body ∷ h) = if_last (name_eq d c) _ _ (Some id) (made_last c h) refl (last_law me workers slots first c h)
+last_law me workers slots first c (Stored w d id slot len exp kept members from r ct body ∷ h) = if_last (bytes_eq d c) _ _ (Some id) (made_last c h) refl (last_law me workers slots first c h)
 last_law me workers slots first c (Looked w q from number d after floor past ∷ h) =
     let o = channel_of (new_desk me workers slots first) c h in
     let sp = (desk_of (new_desk me workers slots first) h).spent in
-    if_last (name_eq d c) (Some (with_look from past (unwrap_or o (made sp)))) o (Some (unwrap_or (made_last c h) (spent_of h))) (made_last c h)
+    if_last (bytes_eq d c) (Some (with_look from past (unwrap_or o (made sp)))) o (Some (unwrap_or (made_last c h) (spent_of h))) (made_last c h)
     (ap (λ (x : Id). Some x) (look_last from past (unwrap_or o (made sp)) ∙ last_made o (made_last c h) sp (spent_of h) (last_law me workers slots first c h) (spent_law me workers slots first h)))
     (last_law me workers slots first c h)
 last_law me workers slots first c (Joined w d from k ∷ h) =
     let o = channel_of (new_desk me workers slots first) c h in
     let sp = (desk_of (new_desk me workers slots first) h).spent in
-    if_last (name_eq d c) (Some (joined_channel (record { from = from; k = k }) (unwrap_or o (made sp)))) o (Some (unwrap_or (made_last c h) (spent_of h))) (made_last c h)
+    if_last (bytes_eq d c) (Some (joined_channel (record { from = from; k = k }) (unwrap_or o (made sp)))) o (Some (unwrap_or (made_last c h) (spent_of h))) (made_last c h)
     (ap (λ (x : Id). Some x) (last_made o (made_last c h) sp (spent_of h) (last_law me workers slots first c h) (spent_law me workers slots first h)))
     (last_law me workers slots first c h)
-last_law me workers slots first c (Removed w d last cause ∷ h) = if_last (name_eq d c) None _ None (made_last c h) refl (last_law me workers slots first c h)
-last_law me workers slots first c (Left w d id slot cause ∷ h) = stays_last (name_eq d c) (left_channel id) (λ ch. refl) _ (made_last c h) (last_law me workers slots first c h)
-last_law me workers slots first c (Parted w d from k ∷ h) = stays_last (name_eq d c) (parted_channel (record { from = from; k = k })) (λ ch. refl) _ (made_last c h) (last_law me workers slots first c h)
+last_law me workers slots first c (Removed w d last cause ∷ h) = if_last (bytes_eq d c) None _ None (made_last c h) refl (last_law me workers slots first c h)
+last_law me workers slots first c (Left w d id slot cause ∷ h) = stays_last (bytes_eq d c) (left_channel id) (λ ch. refl) _ (made_last c h) (last_law me workers slots first c h)
+last_law me workers slots first c (Parted w d from k ∷ h) = stays_last (bytes_eq d c) (parted_channel (record { from = from; k = k })) (λ ch. refl) _ (made_last c h) (last_law me workers slots first c h)
 last_law me workers slots first c (Granted w g slot to ∷ h) = same_last (with_grants slot) (λ ch. refl) _ ∙ last_law me workers slots first c h
 last_law me workers slots first c (e ∷ h) = last_law me workers slots first c h
 
@@ -117,18 +116,18 @@ look_latest from (Some id) ch = refl
 
 latest_law : (d : Desk) (c : List ℕ) (h : List Event) → latest_in (channel_of d c h) ≡ latest_of c h
 latest_law d c [] = refl
-latest_law d c (Stored w n id slot len exp kept members from r ct body ∷ h) = if_latest (name_eq n c) _ _ (Some id) (latest_of c h) refl (latest_law d c h)
+latest_law d c (Stored w n id slot len exp kept members from r ct body ∷ h) = if_latest (bytes_eq n c) _ _ (Some id) (latest_of c h) refl (latest_law d c h)
 latest_law d c (Looked w q from number n after floor past ∷ h) =
     let o = channel_of d c h in
     let ch = unwrap_or o (made (desk_of d h).spent) in
-    same_latest (name_eq n c) (Some (with_look from past ch)) o (latest_of c h) (look_latest from past ch ∙ made_latest o (desk_of d h).spent) (latest_law d c h)
+    same_latest (bytes_eq n c) (Some (with_look from past ch)) o (latest_of c h) (look_latest from past ch ∙ made_latest o (desk_of d h).spent) (latest_law d c h)
 latest_law d c (Joined w n from k ∷ h) =
     let o = channel_of d c h in
-    same_latest (name_eq n c) (Some (joined_channel (record { from = from; k = k }) (unwrap_or o (made (desk_of d h).spent)))) o (latest_of c h) (made_latest o (desk_of d h).spent) (latest_law d c h)
-latest_law d c (Removed w n last cause ∷ h) = if_latest (name_eq n c) None _ None (latest_of c h) refl (latest_law d c h)
-latest_law d c (Left w n id slot cause ∷ h) = same_latest (name_eq n c) (option_map (left_channel id) (channel_of d c h)) (channel_of d c h) (latest_of c h) (map_latest (left_channel id) (λ ch. refl) (channel_of d c h)) (latest_law d c h)
+    same_latest (bytes_eq n c) (Some (joined_channel (record { from = from; k = k }) (unwrap_or o (made (desk_of d h).spent)))) o (latest_of c h) (made_latest o (desk_of d h).spent) (latest_law d c h)
+latest_law d c (Removed w n last cause ∷ h) = if_latest (bytes_eq n c) None _ None (latest_of c h) refl (latest_law d c h)
+latest_law d c (Left w n id slot cause ∷ h) = same_latest (bytes_eq n c) (option_map (left_channel id) (channel_of d c h)) (channel_of d c h) (latest_of c h) (map_latest (left_channel id) (λ ch. refl) (channel_of d c h)) (latest_law d c h)
 latest_law d c (Parted w n from k ∷ h) =
-    same_latest (name_eq n c) (option_map (parted_channel (record { from = from; k = k })) (channel_of d c h)) (channel_of d c h) (latest_of c h) (map_latest (parted_channel (record { from = from; k = k })) (λ ch. refl) (channel_of d c h)) (latest_law d c h)
+    same_latest (bytes_eq n c) (option_map (parted_channel (record { from = from; k = k })) (channel_of d c h)) (channel_of d c h) (latest_of c h) (map_latest (parted_channel (record { from = from; k = k })) (λ ch. refl) (channel_of d c h)) (latest_law d c h)
 latest_law d c (Granted w g slot to ∷ h) = map_latest (with_grants slot) (λ ch. refl) (channel_of d c h) ∙ latest_law d c h
 latest_law d c (e ∷ h) = latest_law d c h
 
@@ -152,9 +151,9 @@ look_members from (Some id) ch = refl
 
 -- the members after an event
 abbrev members_with : List ℕ → List Member → Event → List Member
-members_with c ms (Joined w n from k) = cond (name_eq n c) (with_member (record { from = from; k = k }) ms) ms
-members_with c ms (Parted w n from k) = cond (name_eq n c) (without_member (record { from = from; k = k }) ms) ms
-members_with c ms (Removed w n last cause) = cond (name_eq n c) [] ms
+members_with c ms (Joined w n from k) = cond (bytes_eq n c) (with_member (record { from = from; k = k }) ms) ms
+members_with c ms (Parted w n from k) = cond (bytes_eq n c) (without_member (record { from = from; k = k }) ms) ms
+members_with c ms (Removed w n last cause) = cond (bytes_eq n c) [] ms
 members_with c ms e = ms
 
 joins : (b : Bool) (m : Member) (o : Option Channel) (sp : Id) → members_in (cond b (Some (joined_channel m (unwrap_or o (made sp)))) o) ≡ cond b (with_member m (members_in o)) (members_in o)
@@ -171,13 +170,13 @@ removes true o = refl
 removes false o = refl
 
 members_step : (c : List ℕ) (sp : Id) (o : Option Channel) (e : Event) → members_in (channel_with c sp o e) ≡ members_with c (members_in o) e
-members_step c sp o (Stored w n id slot len exp kept members from r ct body) = same_members (name_eq n c) (Some (kept_channel kept (new_entry id slot exp) (unwrap_or o (made sp)))) o (made_members o sp)
-members_step c sp o (Left w n id slot cause) = same_members (name_eq n c) (option_map (left_channel id) o) o (map_members (left_channel id) (λ ch. refl) o)
-members_step c sp o (Looked w q from number n after floor past) = same_members (name_eq n c) (Some (with_look from past (unwrap_or o (made sp)))) o (look_members from past (unwrap_or o (made sp)) ∙ made_members o sp)
-members_step c sp o (Joined w n from k) = joins (name_eq n c) (record { from = from; k = k }) o sp
-members_step c sp o (Parted w n from k) = parts (name_eq n c) (record { from = from; k = k }) o
+members_step c sp o (Stored w n id slot len exp kept members from r ct body) = same_members (bytes_eq n c) (Some (kept_channel kept (new_entry id slot exp) (unwrap_or o (made sp)))) o (made_members o sp)
+members_step c sp o (Left w n id slot cause) = same_members (bytes_eq n c) (option_map (left_channel id) o) o (map_members (left_channel id) (λ ch. refl) o)
+members_step c sp o (Looked w q from number n after floor past) = same_members (bytes_eq n c) (Some (with_look from past (unwrap_or o (made sp)))) o (look_members from past (unwrap_or o (made sp)) ∙ made_members o sp)
+members_step c sp o (Joined w n from k) = joins (bytes_eq n c) (record { from = from; k = k }) o sp
+members_step c sp o (Parted w n from k) = parts (bytes_eq n c) (record { from = from; k = k }) o
 members_step c sp o (Granted w g slot to) = map_members (with_grants slot) (λ ch. refl) o
-members_step c sp o (Removed w n last cause) = removes (name_eq n c) o
+members_step c sp o (Removed w n last cause) = removes (bytes_eq n c) o
 members_step c sp o e = refl
 
 abbrev AreSorted : List Member → Type 0
@@ -188,9 +187,9 @@ if_sorted true xs ys s t = s
 if_sorted false xs ys s t = t
 
 sorted_step : (c : List ℕ) (ms : List Member) (e : Event) → AreSorted ms → AreSorted (members_with c ms e)
-sorted_step c ms (Joined w n from k) s = if_sorted (name_eq n c) _ ms (sorted_inserted member_total (record { from = from; k = k }) ms s) s
-sorted_step c ms (Parted w n from k) s = if_sorted (name_eq n c) _ ms (sorted_removed member_total _ ms s) s
-sorted_step c ms (Removed w n last cause) s = if_sorted (name_eq n c) [] ms (sorted_none member_cmp) s
+sorted_step c ms (Joined w n from k) s = if_sorted (bytes_eq n c) _ ms (sorted_inserted member_total (record { from = from; k = k }) ms s) s
+sorted_step c ms (Parted w n from k) s = if_sorted (bytes_eq n c) _ ms (sorted_removed member_total _ ms s) s
+sorted_step c ms (Removed w n last cause) s = if_sorted (bytes_eq n c) [] ms (sorted_none member_cmp) s
 sorted_step c ms e s = s
 
 members_sorted : (d : Desk) (c : List ℕ) (h : List Event) → AreSorted (members_in (channel_of d c h))
@@ -199,9 +198,9 @@ members_sorted d c (e ∷ h) = subst AreSorted (sym (members_step c (desk_of d h
 
 -- whether one is a member after an event
 abbrev member_with : List ℕ → Member → Bool → Event → Bool
-member_with c m is (Joined w n from k) = (name_eq n c && is_same m from k) || is
-member_with c m is (Parted w n from k) = not (name_eq n c && is_same m from k) && is
-member_with c m is (Removed w n last cause) = not (name_eq n c) && is
+member_with c m is (Joined w n from k) = (bytes_eq n c && is_same m from k) || is
+member_with c m is (Parted w n from k) = not (bytes_eq n c && is_same m from k) && is
+member_with c m is (Removed w n last cause) = not (bytes_eq n c) && is
 member_with c m is e = is
 
 joins_is : (b : Bool) (m : Member) (from k : ℕ) (ms : List Member) → has_member m (cond b (with_member (record { from = from; k = k }) ms) ms) ≡ ((b && is_same m from k) || has_member m ms)
@@ -219,9 +218,9 @@ removes_is true m ms = refl
 removes_is false m ms = refl
 
 member_step : (c : List ℕ) (m : Member) (ms : List Member) (e : Event) → AreSorted ms → has_member m (members_with c ms e) ≡ member_with c m (has_member m ms) e
-member_step c m ms (Joined w n from k) s = joins_is (name_eq n c) m from k ms
-member_step c m ms (Parted w n from k) s = parts_is (name_eq n c) m from k ms s
-member_step c m ms (Removed w n last cause) s = removes_is (name_eq n c) m ms
+member_step c m ms (Joined w n from k) s = joins_is (bytes_eq n c) m from k ms
+member_step c m ms (Parted w n from k) s = parts_is (bytes_eq n c) m from k ms s
+member_step c m ms (Removed w n last cause) s = removes_is (bytes_eq n c) m ms
 member_step c m ms e s = refl
 
 member_filter : (c : List ℕ) (m : Member) (e : Event) (h : List Event) → member_with c m (is_member c m h) e ≡ is_member c m (e ∷ h)
@@ -262,17 +261,17 @@ marks false from o sp u = refl
 pub marks_law : (d : Desk) (c : List ℕ) (u : ℕ) (h : List Event) → has_number u (marks_in (channel_of d c h)) ≡ is_marked c u h
 marks_law d c u [] = refl
 marks_law d c u (Looked w q from number n after floor None ∷ h) =
-    marks (name_eq n c) from (channel_of d c h) (desk_of d h).spent u ∙ ap (λ b. (name_eq n c && nat_eq u from) || b) (marks_law d c u h)
+    marks (bytes_eq n c) from (channel_of d c h) (desk_of d h).spent u ∙ ap (λ b. (bytes_eq n c && nat_eq u from) || b) (marks_law d c u h)
 marks_law d c u (Looked w q from number n after floor (Some id) ∷ h) =
-    ap (has_number u) (same_marks (name_eq n c) (Some (unwrap_or (channel_of d c h) (made (desk_of d h).spent))) (channel_of d c h) (made_marks (channel_of d c h) (desk_of d h).spent)) ∙ marks_law d c u h
+    ap (has_number u) (same_marks (bytes_eq n c) (Some (unwrap_or (channel_of d c h) (made (desk_of d h).spent))) (channel_of d c h) (made_marks (channel_of d c h) (desk_of d h).spent)) ∙ marks_law d c u h
 marks_law d c u (Stored w n id slot len exp kept members from r ct body ∷ h) =
-    clears (name_eq n c) (Some (kept_channel kept (new_entry id slot exp) (unwrap_or (channel_of d c h) (made (desk_of d h).spent)))) (channel_of d c h) u refl ∙ ap (λ b. not (name_eq n c) && b) (marks_law d c u h)
-marks_law d c u (Removed w n last cause ∷ h) = clears (name_eq n c) None (channel_of d c h) u refl ∙ ap (λ b. not (name_eq n c) && b) (marks_law d c u h)
+    clears (bytes_eq n c) (Some (kept_channel kept (new_entry id slot exp) (unwrap_or (channel_of d c h) (made (desk_of d h).spent)))) (channel_of d c h) u refl ∙ ap (λ b. not (bytes_eq n c) && b) (marks_law d c u h)
+marks_law d c u (Removed w n last cause ∷ h) = clears (bytes_eq n c) None (channel_of d c h) u refl ∙ ap (λ b. not (bytes_eq n c) && b) (marks_law d c u h)
 marks_law d c u (Joined w n from k ∷ h) =
-    ap (has_number u) (same_marks (name_eq n c) (Some (joined_channel (record { from = from; k = k }) (unwrap_or (channel_of d c h) (made (desk_of d h).spent)))) (channel_of d c h) (made_marks (channel_of d c h) (desk_of d h).spent)) ∙ marks_law d c u h
-marks_law d c u (Left w n id slot cause ∷ h) = ap (has_number u) (same_marks (name_eq n c) (option_map (left_channel id) (channel_of d c h)) (channel_of d c h) (map_marks (left_channel id) (λ ch. refl) (channel_of d c h))) ∙ marks_law d c u h
+    ap (has_number u) (same_marks (bytes_eq n c) (Some (joined_channel (record { from = from; k = k }) (unwrap_or (channel_of d c h) (made (desk_of d h).spent)))) (channel_of d c h) (made_marks (channel_of d c h) (desk_of d h).spent)) ∙ marks_law d c u h
+marks_law d c u (Left w n id slot cause ∷ h) = ap (has_number u) (same_marks (bytes_eq n c) (option_map (left_channel id) (channel_of d c h)) (channel_of d c h) (map_marks (left_channel id) (λ ch. refl) (channel_of d c h))) ∙ marks_law d c u h
 marks_law d c u (Parted w n from k ∷ h) =
-    ap (has_number u) (same_marks (name_eq n c) (option_map (parted_channel (record { from = from; k = k })) (channel_of d c h)) (channel_of d c h) (map_marks (parted_channel (record { from = from; k = k })) (λ ch. refl) (channel_of d c h))) ∙ marks_law d c u h
+    ap (has_number u) (same_marks (bytes_eq n c) (option_map (parted_channel (record { from = from; k = k })) (channel_of d c h)) (channel_of d c h) (map_marks (parted_channel (record { from = from; k = k })) (λ ch. refl) (channel_of d c h))) ∙ marks_law d c u h
 marks_law d c u (Granted w g slot to ∷ h) = ap (has_number u) (map_marks (with_grants slot) (λ ch. refl) (channel_of d c h)) ∙ marks_law d c u h
 marks_law d c u (e ∷ h) = marks_law d c u h
 

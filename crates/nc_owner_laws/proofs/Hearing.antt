@@ -1,13 +1,12 @@
 -- What a worker heard of its look is what happened to it.
 use Rattle.std.proofs.Common.{◌≡◌, ℕ, ◌+◌, Bool, true, false, cond, not, List, [], ◌∷◌, ◌++◌, Option, Some, None, refl, sym, ap, ◌∙◌, subst, length, map}
-use Rattle.std.specs.Prelude.{◌&&◌, ◌||◌, ◌==◌}
+use Rattle.std.specs.Prelude.{◌&&◌, ◌||◌, ◌==◌, bytes_eq}
 use Rattle.std.specs.List.{AllByRecursion}
 use Rattle.std.specs.Cmp.Lexicographic.{same_text}
 use Rattle.std.proofs.lemmas.Bool.{true≢false, eqb-true}
 use Rattle.std.proofs.lemmas.List.{append-nil}
 use Rattle.nc_types.specs.Id.{Id}
 use Rattle.nc_types.specs.Message.{Message}
-use Rattle.nc_types.specs.Channel.{name_eq}
 use Rattle.nc_types.specs.declared.info.Info.{Info}
 use Rattle.nc_journal.specs.History.{onto}
 use Rattle.nc_journal.specs.declared.event.Event.{Event}
@@ -31,7 +30,7 @@ use Rattle.nc_owner.specs.Poll.{free_slots, freed_event, freed_events}
 use Rattle.nc_owner.specs.Publish.{Polls, Outcome, late, full, stored, asked, roomy, leaving, lowest_slot, granted_events, notices, answer, info_of, stored_status, store_bench, stored_event, stamp, post_events, post_alerts, publish_cleared, publish_outcome, cleared_events}
 use Rattle.nc_owner.specs.Look.{found_on, looked_event, found_events, found_line, look_ready}
 use Rattle.nc_owner.specs.OtherSteps.{touched_of, touch_events_of, info_line}
-use Rattle.nc_owner_laws.specs.OwnerTold.{Tells}
+use Rattle.nc_owner_laws.specs.OwnerTold.{HistoryTells}
 use Rattle.nc_owner_laws.specs.Filters.{new_desk, is_marked, marks_in}
 use Rattle.nc_owner_laws.specs.Weave.{weave, numbered}
 use Rattle.nc_owner_laws.specs.Wake.{Wake, NotYet, Waiting, ByNotice, ByGone, woken, wake, hear, hears, made_to, IsOnlyAt, Wakes, NewWakes, LookWakes, PublishWakes, OthersWake}
@@ -173,8 +172,8 @@ none_waits false b n m t f e = or_last (n && b) m (f e)
 
 look_none : (v v' p from number k floor floor' : ℕ) (c : List ℕ) (after : Id) (h : List Event) → Heard h → Heard (Made v from k (lines.LookAnswer number p floor None None None) ∷ Looked v' p from number c after floor' None ∷ h)
 look_none v v' p from number k floor floor' c after h g = record {
-  same = λ w d q o. none_same (p == q) (from == w) (name_eq c d) (heard w d q h) (wake w d q h) (λ e. o.0 (eqb-true p q e)) (g.same w d q o.1);
-  waits = λ w d q e. ap (λ b. (name_eq c d && b) || is_marked d w h) (eqb_turn w from) ∙ none_waits (p == q) (from == w) (name_eq c d) (is_marked d w h) (wake w d q h) (g.waits w d q) e;
+  same = λ w d q o. none_same (p == q) (from == w) (bytes_eq c d) (heard w d q h) (wake w d q h) (λ e. o.0 (eqb-true p q e)) (g.same w d q o.1);
+  waits = λ w d q e. ap (λ b. (bytes_eq c d && b) || is_marked d w h) (eqb_turn w from) ∙ none_waits (p == q) (from == w) (bytes_eq c d) (is_marked d w h) (wake w d q h) (g.waits w d q) e;
 }
 
 look_some : (v v' v'' p from number k floor floor' g slot g' slot' : ℕ) (c : List ℕ) (after id id' : Id) (h : List Event) → Heard h → Heard (Made v from k (lines.LookAnswer number p floor (Some id) (Some g) (Some slot)) ∷ Granted v'' g' slot' from ∷ Looked v' p from number c after floor' (Some id') ∷ h)
@@ -258,12 +257,12 @@ noticed false true false id s = refl
 noticed false false n id s = refl
 
 told_heard : (v v' : ℕ) (next : ℕ → ℕ) (c : List ℕ) (id : Id) (slot g : ℕ) (marks : List ℕ) (out : OutLine) (h : List Event) (w : ℕ) (d : List ℕ) (q : ℕ) → ((c : List ℕ) (q : ℕ) (s : Wake) → hear c q s out.line ≡ s)
-    → heard w d q (onto (told_events v v' next c id slot g marks out) h) ≡ cond (has_number w marks && name_eq c d) (woken (ByNotice id) (heard w d q h)) (heard w d q h)
+    → heard w d q (onto (told_events v v' next c id slot g marks out) h) ≡ cond (has_number w marks && bytes_eq c d) (woken (ByNotice id) (heard w d q h)) (heard w d q h)
 told_heard v v' next c id slot g [] out h w d q silent = cond_both_same (out.to == w) (heard w d q h) (hear d q (heard w d q h) out.line) (silent d q (heard w d q h))
 told_heard v v' next c id slot g (to ∷ marks) out h w d q silent =
     told_heard v v' (numbered next to) c id slot (g + 1) marks out (Made v to (next to) (lines.Notice c id g slot) ∷ Granted v' g slot to ∷ h) w d q silent
-    ∙ noticed (to == w) (has_number w marks) (name_eq c d) id (heard w d q h)
-    ∙ ap (λ b. cond ((b || has_number w marks) && name_eq c d) (woken (ByNotice id) (heard w d q h)) (heard w d q h)) (eqb_turn to w)
+    ∙ noticed (to == w) (has_number w marks) (bytes_eq c d) id (heard w d q h)
+    ∙ ap (λ b. cond ((b || has_number w marks) && bytes_eq c d) (woken (ByNotice id) (heard w d q h)) (heard w d q h)) (eqb_turn to w)
 
 told_wake : (v v' : ℕ) (next : ℕ → ℕ) (c : List ℕ) (id : Id) (slot g : ℕ) (marks : List ℕ) (out : OutLine) (h : List Event) (w : ℕ) (d : List ℕ) (q : ℕ) → wake w d q (onto (told_events v v' next c id slot g marks out) h) ≡ wake w d q h
 told_wake v v' next c id slot g [] out h w d q = refl
@@ -293,24 +292,24 @@ stored_wakes : (v v' v'' : ℕ) (next : ℕ → ℕ) (c : List ℕ) (id : Id) (s
     → Heard (onto (told_events v v' next c id slot g marks out) (Stored v'' c id slot len exp kept members from r ct body ∷ h))
 stored_wakes v v' v'' next c id slot len exp kept members from r ct body g marks out h silent are k =
     let h1 = Stored v'' c id slot len exp kept members from r ct body ∷ h in
-    let not_waits = λ (w : ℕ) (d : List ℕ) (q : ℕ) (n : name_eq c d ≡ true) (unmarked : has_number w marks ≡ false) (e : wake w d q h ≡ Waiting).
+    let not_waits = λ (w : ℕ) (d : List ℕ) (q : ℕ) (n : bytes_eq c d ≡ true) (unmarked : has_number w marks ≡ false) (e : wake w d q h ≡ Waiting).
     true≢false (sym (subst (λ (x : List ℕ). is_marked x w h ≡ true) (sym (same_text c d (sym n))) (k.waits w d q e)) ∙ sym (are w) ∙ unmarked) in
     record {
       same = λ w d q o.
           told_heard v v' next c id slot g marks out h1 w d q silent
-          ∙ stored_same (has_number w marks) (name_eq c d) id (heard w d q h) (wake w d q h) (k.same w d q (told_only v v' next c id slot g marks out h1 d q o)) (not_waits w d q)
+          ∙ stored_same (has_number w marks) (bytes_eq c d) id (heard w d q h) (wake w d q h) (k.same w d q (told_only v v' next c id slot g marks out h1 d q o)) (not_waits w d q)
           ∙ sym (told_wake v v' next c id slot g marks out h1 w d q);
       waits = λ w d q e.
           told_marked v v' next c id slot g marks out h1 w d
-          ∙ stored_waits (name_eq c d) (is_marked d w h) id (wake w d q h) (k.waits w d q) (sym (told_wake v v' next c id slot g marks out h1 w d q) ∙ e);
+          ∙ stored_waits (bytes_eq c d) (is_marked d w h) id (wake w d q h) (k.waits w d q) (sym (told_wake v v' next c id slot g marks out h1 w d q) ∙ e);
     }
 
 -- the marks of a channel are those of the history
-marks_are : (me workers slots first : ℕ) (h : List Event) (c : List ℕ) (s : OwnerAt) → Tells (new_desk me workers slots first) h s → (w : ℕ) → has_number w (opened c s).marks ≡ is_marked c w h
+marks_are : (me workers slots first : ℕ) (h : List Event) (c : List ℕ) (s : OwnerAt) → HistoryTells (new_desk me workers slots first) h s → (w : ℕ) → has_number w (opened c s).marks ≡ is_marked c w h
 marks_are me workers slots first h c s t w =
     ap (has_number w) (made_marks (found c s) s.desk.spent) ∙ ap (λ o. has_number w (marks_in o)) (t.channels c) ∙ marks_law (new_desk me workers slots first) c w h
 
-post_wakes : (y : Outcome) (me workers slots first : ℕ) (h : List Event) (next : ℕ → ℕ) (from : ℕ) (o : Order) (row : List (Slot Message)) (s : OwnerAt) (polls : Polls) → Tells (new_desk me workers slots first) h s → Heard h
+post_wakes : (y : Outcome) (me workers slots first : ℕ) (h : List Event) (next : ℕ → ℕ) (from : ℕ) (o : Order) (row : List (Slot Message)) (s : OwnerAt) (polls : Polls) → HistoryTells (new_desk me workers slots first) h s → Heard h
     → Heard (onto (weave s.desk.me next (cleared_events polls.retired o.chan (bench_of o.chan row s) ++ post_events y from o polls (publish_cleared o polls row s)) (post_alerts y from o polls (publish_cleared o polls row s))) h)
 post_wakes late me workers slots first h next from o row s polls t k =
     still_then s.desk.me next _ h (answer from o.r 503 None None) (still_append (cleared_events polls.retired o.chan (bench_of o.chan row s)) [] (still_append (touch_events_of o.chan row s) _ (still_touch o.chan row s) (still_freed s.desk.me (free_slots polls.retired))) tt) (λ c q x. refl) k

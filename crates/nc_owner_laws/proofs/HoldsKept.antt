@@ -16,11 +16,11 @@ use Rattle.nc_owner.specs.declared.order.Order.{Order}
 use Rattle.nc_owner.specs.State.{OwnerAt, Bench, bench_of, entries_of, opened}
 use Rattle.nc_owner.specs.Leave.{leavers}
 use Rattle.nc_owner.specs.Ascending.{ascending}
-use Rattle.nc_owner.specs.Publish.{Polls, Outcome, late, stored, full as is_all, asked, roomy, leaving, slots_of, lowest_slot, granted_slot, one_hold, told_row, kept_row, post_bench, post_holds, publish_cleared, publish_outcome, publish_row, publish_holds, message_of, stamp, PublishPolls}
+use Rattle.nc_owner.specs.Publish.{Polls, Outcome, late, stored, full as is_all, asked, roomy, leaving, slots_of, lowest_slot, granted_slot, one_hold, told_row, kept_row, post_bench, post_holds, publish_cleared, publish_outcome, publish_row, publish_holds, message_of_order, stamp, PublishPolls}
 use Rattle.nc_owner.specs.Look.{found_on, found_row, found_holds, look_ready, look_row, look_holds}
 use Rattle.nc_owner.specs.OtherSteps.{touched_of}
 use Rattle.nc_owner_laws.specs.Kept.{IsIn, AreIn}
-use Rattle.nc_owner_laws.specs.Fits.{Fits}
+use Rattle.nc_owner_laws.specs.OwnerFits.{OwnerFits}
 use Rattle.nc_owner_laws.specs.HoldsKept.{HoldsFit, told_polls, one_less, NewHoldsFit, HoldsKept}
 use Rattle.nc_owner_laws.proofs.Opening.{rest_of}
 use Rattle.nc_owner_laws.proofs.Leaving.{let_go_fits}
@@ -107,7 +107,7 @@ post_fits (is_all usage) o polls counts b low f g r = g
 post_fits stored o polls counts b low f g r =
     let room = roomy o.length polls.left (asked polls.leaving b) in
     let slot = lowest_slot room.row in
-    let m = message_of (stamp room) o room.desk.clock in
+    let m = message_of_order (stamp room) o room.desk.clock in
     kept_fits _ slot (told_row m slot room.channel.marks room.row) (fold (one_hold slot) counts room.channel.marks)
     (told_fits m slot room.channel.marks room.row counts (some_lowest (lowest_unused room.row) (low refl)) r)
 
@@ -143,10 +143,10 @@ touch_holds : (c : List ℕ) (row : List (Slot Message)) (counts : List ℕ) (s 
 touch_holds c row counts s f = left_fits (leavers (is_expired s.desk.clock) (bench_of c row s)) row counts f
 
 -- where a look is answered, the message of each entry lies in its slot
-ready_kept : (c : List ℕ) (row : List (Slot Message)) (s : OwnerAt) → Fits row s → AreIn (look_ready c row s).row (entries_of (look_ready c row s).channel)
+ready_kept : (c : List ℕ) (row : List (Slot Message)) (s : OwnerAt) → OwnerFits row s → AreIn (look_ready c row s).row (entries_of (look_ready c row s).channel)
 ready_kept c row s f = (let_go_fits (rest_of c s) is_spent (touched_of c row s) (touched_fits c row s f)).kept
 
-look_holds_fit : (from : ℕ) (c : List ℕ) (id : Id) (row : List (Slot Message)) (counts : List ℕ) (s : OwnerAt) → Fits row s → HoldsFit row counts → HoldsFit (look_row from c id row s) (look_holds from c id row s counts)
+look_holds_fit : (from : ℕ) (c : List ℕ) (id : Id) (row : List (Slot Message)) (counts : List ℕ) (s : OwnerAt) → OwnerFits row s → HoldsFit row counts → HoldsFit (look_row from c id row s) (look_holds from c id row s counts)
 look_holds_fit from c id row counts s k f =
     let b = look_ready c row s in
     found_fits from (found_on id b) b.row counts
@@ -160,7 +160,7 @@ one_less_low (x ∷ xs) zero (suc k) = omega arith
 one_less_low (x ∷ xs) (suc slot) zero = omega arith
 one_less_low (x ∷ xs) (suc slot) (suc k) = one_less_low xs slot k
 
-told_holds_fit : (o : Order) (row : List (Slot Message)) (counts : List ℕ) (s : OwnerAt) → Fits row s → HoldsFit row counts → let p = told_polls counts o row s in HoldsFit (publish_row o p row s) (publish_holds o p row s counts)
+told_holds_fit : (o : Order) (row : List (Slot Message)) (counts : List ℕ) (s : OwnerAt) → OwnerFits row s → HoldsFit row counts → let p = told_polls counts o row s in HoldsFit (publish_row o p row s) (publish_holds o p row s counts)
 told_holds_fit o row counts s k f =
     let p = told_polls counts o row s in
     let b = publish_cleared o p row s in

@@ -12,7 +12,8 @@ use Rattle.nc_owner.specs.State.{Bench, entries_of, with_entries}
 use Rattle.nc_owner.specs.Leave.{left_row, left_by, with_slot, let_go, leavers, stayers}
 use Rattle.nc_owner_laws.specs.Used.{times, Agrees}
 use Rattle.nc_owner_laws.specs.Kept.{slots_in, IsIn, AreIn}
-use Rattle.nc_owner_laws.specs.Fits.{IsRegular, BenchFits}
+use Rattle.nc_owner_laws.specs.OwnerFits.{IsRegular}
+use Rattle.nc_owner_laws.proofs.Benches.{BenchFits}
 use Rattle.nc_owner_laws.proofs.Used.{leaves_row, times-append, agrees-same, left_all}
 use Rattle.nc_owner_laws.proofs.Kept.{times-insert, times-filter, length-filter, all_filtered, rising-filter, in_where, stays_left, length_left, bit_le}
 

@@ -1,17 +1,17 @@
 -- The leaving rule over an owner's steps.
 use Rattle.std.proofs.Common.{◌≡◌, inl, inr, ℕ, zero, suc, ◌+◌, ◌-◌, ◌<◌, ◌≤◌, Bool, true, false, cond, not, List, [], ◌∷◌, ◌++◌, Option, Some, None, refl, sym, ap, ◌∙◌, subst, arith, length, map, filter, take, drop, append_assoc, ◌⊎◌}
-use Rattle.std.specs.Prelude.{◌==◌, ◌&&◌, ◌||◌, nat_le}
+use Rattle.std.specs.Prelude.{◌==◌, ◌&&◌, ◌||◌, nat_le, bytes_eq}
 use Rattle.std.specs.List.{AllByRecursion}
 use Rattle.std.proofs.lemmas.Bool.{cond_both}
 use Rattle.std.proofs.lemmas.Bool.Decides.{nat_tests}
 use Rattle.std.proofs.lemmas.List.{length-drop, length-map}
 use Rattle.nc_types.specs.Id.{Id, IsPast, id_eq}
-use Rattle.nc_types.specs.Channel.{owner_of, name_eq}
+use Rattle.nc_types.specs.Channel.{owner_of}
 use Rattle.nc_types.specs.Message.{Message as SlotMessage}
 use Rattle.nc_journal.specs.History.{own, onto, Along, AtEachCut, is_by}
 use Rattle.nc_journal.specs.Stamp.{clock_of}
-use Rattle.nc_journal.specs.Message.{Message, buffer, published, is_gone, message_of, IsRising}
-use Rattle.nc_journal.specs.Leaving.{is_expired as has_expired, HasMessage, StandsFirst, MakesWay, MakesRoom, GoesToo, GoesNext, grants_since, most_grants, LeavesBy, LeftAt, NoneExpired, FindsAt, IsLeavingRule}
+use Rattle.nc_journal.specs.Message.{Message, buffer, published, is_gone, stored_message, IsRising}
+use Rattle.nc_journal.specs.Leaving.{has_expired, HasMessage, StandsFirst, MakesWay, MakesRoom, GoesToo, GoesNext, grants_since, most_grants, LeavesBy, LeftAt, NoneExpired, FindsAt, IsLeavingRule}
 use Rattle.nc_journal.specs.declared.event.Event.{Event}
 use Rattle.nc_journal.specs.declared.event.Event.TheVariants.{Stored, Left, Looked, Edged, Granted, Freed, Joined, Parted, Removed}
 use Rattle.nc_journal.specs.declared.word.LeftCause.{LeftCause}
@@ -529,22 +529,22 @@ module _ (workers w : ℕ) (c : List ℕ) (mine : w ≡ owner_of workers c) wher
   stored_more : (id : Id) (slot len exp : ℕ) (kept : Bool) (members from r : ℕ) (ct : Option (List ℕ)) (body : List ℕ) (h : List Event)
       → length (buffer c (Stored w c id slot len exp kept members from r ct body ∷ h)) ≤ length (buffer c h) + cond kept 1 0
   stored_more id slot len exp kept members from r ct body h =
-      let m = message_of id slot exp ct body in
-      let goes : Message → Bool = λ x. not ((not kept && (name_eq c c && id_eq id x.id)) || is_gone c x.id h) in
+      let m = stored_message id slot exp ct body in
+      let goes : Message → Bool = λ x. not ((not kept && (bytes_eq c c && id_eq id x.id)) || is_gone c x.id h) in
       let one : length (filter goes (published c h ++ m ∷ [])) ≤ length (filter goes (published c h)) + cond kept 1 0 = last kept in
-      let fewer : length (filter goes (published c h)) ≤ length (buffer c h) = filter_fewer goes (λ x. not (is_gone c x.id h)) (λ x e. stays_true (not kept && (name_eq c c && id_eq id x.id)) (is_gone c x.id h) e) (published c h) in
+      let fewer : length (filter goes (published c h)) ≤ length (buffer c h) = filter_fewer goes (λ x. not (is_gone c x.id h)) (λ x e. stays_true (not kept && (bytes_eq c c && id_eq id x.id)) (is_gone c x.id h) e) (published c h) in
       let is : length (buffer c (Stored w c id slot len exp kept members from r ct body ∷ h)) ≡ length (filter goes (published c h ++ m ∷ [])) = ap (λ b. length (filter goes (cond b (published c h ++ m ∷ []) (published c h)))) (name_self c) in
       omega (arith, one, fewer, is)
     where
-      last : (k : Bool) → length (filter (λ x. not ((not k && (name_eq c c && id_eq id x.id)) || is_gone c x.id h)) (published c h ++ message_of id slot exp ct body ∷ []))
-          ≤ length (filter (λ x. not ((not k && (name_eq c c && id_eq id x.id)) || is_gone c x.id h)) (published c h)) + cond k 1 0
-      last true = by (not (is_gone c id h)) _ _ (filter_one (λ x. not ((not true && (name_eq c c && id_eq id x.id)) || is_gone c x.id h)) (published c h) (message_of id slot exp ct body) (not (is_gone c id h)) refl)
+      last : (k : Bool) → length (filter (λ x. not ((not k && (bytes_eq c c && id_eq id x.id)) || is_gone c x.id h)) (published c h ++ stored_message id slot exp ct body ∷ []))
+          ≤ length (filter (λ x. not ((not k && (bytes_eq c c && id_eq id x.id)) || is_gone c x.id h)) (published c h)) + cond k 1 0
+      last true = by (not (is_gone c id h)) _ _ (filter_one (λ x. not ((not true && (bytes_eq c c && id_eq id x.id)) || is_gone c x.id h)) (published c h) (stored_message id slot exp ct body) (not (is_gone c id h)) refl)
         where
           by : (b : Bool) (n m : ℕ) → n ≤ m + cond b 1 0 → n ≤ m + 1
           by true n m le = le
           by false n m le = omega (arith, le)
-      last false = filter_one (λ x. not ((not false && (name_eq c c && id_eq id x.id)) || is_gone c x.id h)) (published c h) (message_of id slot exp ct body) false
-          (own_gone (name_eq c c) (id_eq id id) (is_gone c id h) (name_self c) (id_eq-self id))
+      last false = filter_one (λ x. not ((not false && (bytes_eq c c && id_eq id x.id)) || is_gone c x.id h)) (published c h) (stored_message id slot exp ct body) false
+          (own_gone (bytes_eq c c) (id_eq id id) (is_gone c id h) (name_self c) (id_eq-self id))
 
 -- ---- the steps
 

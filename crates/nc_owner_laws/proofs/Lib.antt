@@ -1,3 +1,4 @@
+pub mod Benches
 pub mod Used
 pub mod Kept
 pub mod Leaving

@@ -17,7 +17,7 @@ use Rattle.nc_owner.specs.State.{Bench, entries_of, with_entries}
 use Rattle.nc_owner.specs.Look.{found_on, counted_at, found_desk, found_row, found_marks, answered}
 use Rattle.nc_owner_laws.specs.Used.{bit, times}
 use Rattle.nc_owner_laws.specs.Kept.{slots_in, IsIn, AreIn}
-use Rattle.nc_owner_laws.specs.Fits.{BenchFits}
+use Rattle.nc_owner_laws.proofs.Benches.{BenchFits}
 use Rattle.nc_owner_laws.proofs.Used.{agrees-same, granted_one, in_row, times_here}
 use Rattle.nc_owner_laws.proofs.Kept.{in_where, bit_le}
 

@@ -19,7 +19,8 @@ use Rattle.nc_owner.specs.declared.channel.Channel.{Channel}
 use Rattle.nc_owner.specs.State.{OwnerAt, Bench, entries_of, is_name, found, opened, new_channel, bench_of, others, after}
 use Rattle.nc_owner_laws.specs.Used.{times}
 use Rattle.nc_owner_laws.specs.Kept.{slots_in, IsIn}
-use Rattle.nc_owner_laws.specs.Fits.{all_entries, IsRegular, Fits, BenchFits}
+use Rattle.nc_owner_laws.specs.OwnerFits.{all_entries, IsRegular, OwnerFits}
+use Rattle.nc_owner_laws.proofs.Benches.{BenchFits}
 use Rattle.nc_owner_laws.proofs.Used.{times-append, agrees-same}
 use Rattle.nc_owner_laws.proofs.Kept.{all_append}
 use Rattle.nc_owner_laws.proofs.Leaving.{slots_append}
@@ -66,7 +67,7 @@ taken_sum f c s z = ap (λ n. sum_by f (values_of (others c s.channels)) + n) (o
 abbrev pub rest_of : List ℕ → OwnerAt → List Entry
 rest_of c s = all_entries (others c s.channels)
 
-pub opened_fits : (c : List ℕ) (row : List (Slot Message)) (s : OwnerAt) → Fits row s → BenchFits (rest_of c s) (bench_of c row s)
+pub opened_fits : (c : List ℕ) (row : List (Slot Message)) (s : OwnerAt) → OwnerFits row s → BenchFits (rest_of c s) (bench_of c row s)
 opened_fits c row s f =
     let P = λ (e : Entry). IsIn (slot_at row e.slot) e in
     let each = apart_all P (values_of s.channels) f.kept in
@@ -92,7 +93,7 @@ put_sum f c ch s sorted =
     no_more : (n m : ℕ) → m ≡ 0 → n ≡ n + m
     no_more n m e = omega (arith, e)
 
-pub put_fits : (c : List ℕ) (b : Bench) (row : List (Slot Message)) (s : OwnerAt) → Fits row s → BenchFits (rest_of c s) b → Fits b.row (after c true b s)
+pub put_fits : (c : List ℕ) (b : Bench) (row : List (Slot Message)) (s : OwnerAt) → OwnerFits row s → BenchFits (rest_of c s) b → OwnerFits b.row (after c true b s)
 put_fits c b row s f g =
     let P = λ (e : Entry). IsIn (slot_at b.row e.slot) e in
     let chs = insert_entry (slice_cmp nat_cmp) (others c s.channels) c b.channel in
@@ -111,7 +112,7 @@ put_fits c b row s f g =
 no_entries : (k : ℕ) (n : ℕ) (es : List Entry) → es ≡ [] → n + times k (slots_in es) ≡ n
 no_entries k n es is = (let h : times k (slots_in es) ≡ 0 = ap (λ l. times k (slots_in l)) is in omega arith)
 
-pub gone_fits : (c : List ℕ) (b : Bench) (row : List (Slot Message)) (s : OwnerAt) → Fits row s → BenchFits (rest_of c s) b → entries_of b.channel ≡ [] → Fits b.row (after c false b s)
+pub gone_fits : (c : List ℕ) (b : Bench) (row : List (Slot Message)) (s : OwnerAt) → OwnerFits row s → BenchFits (rest_of c s) b → entries_of b.channel ≡ [] → OwnerFits b.row (after c false b s)
 gone_fits c b row s f g none = record {
   names = sorted_remove nat_list_cmp_total (is_name c) s.channels f.names;
   slots = g.slots;
@@ -121,6 +122,6 @@ gone_fits c b row s f g none = record {
   regular = values_remove IsRegular (is_name c) s.channels f.regular;
 }
 
-pub after_fits : (c : List ℕ) (stays : Bool) (b : Bench) (row : List (Slot Message)) (s : OwnerAt) → Fits row s → BenchFits (rest_of c s) b → (stays ≡ false → entries_of b.channel ≡ []) → Fits b.row (after c stays b s)
+pub after_fits : (c : List ℕ) (stays : Bool) (b : Bench) (row : List (Slot Message)) (s : OwnerAt) → OwnerFits row s → BenchFits (rest_of c s) b → (stays ≡ false → entries_of b.channel ≡ []) → OwnerFits b.row (after c stays b s)
 after_fits c true b row s f g none = put_fits c b row s f g
 after_fits c false b row s f g none = gone_fits c b row s f g (none refl)

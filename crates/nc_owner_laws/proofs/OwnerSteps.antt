@@ -30,8 +30,8 @@ use Rattle.nc_owner.specs.Poll.{slot_of, free_slots, freed_event, freed_events}
 use Rattle.nc_owner.specs.Publish.{Polls, Outcome, late, full, stored, asked, roomy, leaving, leaving_count, lowest_slot, granted_events, notices, answer, stored_status, info_of, store_bench, stored_event, stamp, post_events, post_alerts, publish_cleared, publish_outcome, publish_row, publish_after, cleared_events}
 use Rattle.nc_owner.specs.Look.{found_on, looked_event, found_events, found_line, look_ready, look_events, look_alerts, look_row, look_after, answered, counted_at}
 use Rattle.nc_owner.specs.OtherSteps.{touched_of, touched_row, touch_after, touch_events_of, join_events, join_after, part_events, part_after, parted_events, info_alerts, polled_events, polled_row, polled_after, with_clock}
-use Rattle.nc_owner_laws.specs.Fits.{Fits}
-use Rattle.nc_owner_laws.specs.OwnerTold.{channel_of, Tells}
+use Rattle.nc_owner_laws.specs.OwnerFits.{OwnerFits}
+use Rattle.nc_owner_laws.specs.OwnerTold.{channel_of, HistoryTells}
 use Rattle.nc_owner_laws.specs.Filters.{new_desk}
 use Rattle.nc_owner_laws.specs.Buffered.{entries_in, LeavesStored}
 use Rattle.nc_owner_laws.specs.Weave.{weave}
@@ -140,7 +140,7 @@ module _ (me workers slots first : ℕ) (next : ℕ → ℕ) (row : List (Slot M
   is_me = ap (λ (d : Desk). d.me) k.tells.desk ∙ stamping.me_law (new_desk me workers slots first) h
 
   -- a step from its parts
-  assembled : (row' : List (Slot Message)) (s' : OwnerAt) (es : List Event) (alerts : List OutLine) → Fits row' s' → AllByRecursion (IsBy me) es → AllByRecursion Stays es → Tells (new_desk me workers slots first) (onto es h) s'
+  assembled : (row' : List (Slot Message)) (s' : OwnerAt) (es : List Event) (alerts : List OutLine) → OwnerFits row' s' → AllByRecursion (IsBy me) es → AllByRecursion Stays es → HistoryTells (new_desk me workers slots first) (onto es h) s'
       → IsStamped workers (onto (weave s.desk.me next es alerts) h) → Along LeavesStored (onto (weave s.desk.me next es alerts) h) → Wakes (onto (weave s.desk.me next es alerts) h) → NothingPast (onto (weave s.desk.me next es alerts) h)
       → Stands me workers slots first row' (onto (weave s.desk.me next es alerts) h) s'
   assembled row' s' es alerts fits by keeps tells stamped were_stored wakes past = record {

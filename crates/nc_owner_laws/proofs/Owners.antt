@@ -1,14 +1,13 @@
 -- An owner stands for its history over each step.
 use Rattle.std.proofs.Common.{◌≡◌, inl, inr, ℕ, ◌+◌, Bool, true, false, cond, not, List, [], ◌∷◌, ◌++◌, Option, Some, None, refl, sym, ap, ◌∙◌, subst, map, filter, fold}
-use Rattle.std.specs.Prelude.{◌&&◌, ◌||◌, ◌==◌, IfSome}
+use Rattle.std.specs.Prelude.{◌&&◌, ◌||◌, ◌==◌, IfSome, bytes_eq}
 use Rattle.std.specs.List.{AllByRecursion}
 use Rattle.std.specs.Cmp.Lexicographic.{same_text}
 use Rattle.std.proofs.lemmas.Bool.{true≢false, and_parts}
 use Rattle.nc_types.specs.Id.{Id, is_past, id_eq}
-use Rattle.nc_types.specs.Channel.{name_eq}
 use Rattle.nc_journal.specs.History.{own, onto, is_by, Along}
 use Rattle.nc_journal.specs.Stamp.{IsStamped}
-use Rattle.nc_journal.specs.Message.{Message as KeptMessage, message_of, published, is_gone, buffer}
+use Rattle.nc_journal.specs.Message.{Message as KeptMessage, stored_message, published, is_gone, buffer}
 use Rattle.nc_journal.specs.Sending.{HasId}
 use Rattle.nc_journal.specs.declared.event.Event.{Event}
 use Rattle.nc_journal.specs.declared.event.Event.TheVariants.{Stored, Left, Granted, Looked, Parted, Removed, Made}
@@ -23,7 +22,7 @@ use Rattle.nc_owner.specs.Leave.{left_event}
 use Rattle.nc_owner.specs.Poll.{freed_event}
 use Rattle.nc_owner.specs.Publish.{granted_events}
 use Rattle.nc_owner.specs.Look.{looked_event, found_events}
-use Rattle.nc_owner_laws.specs.OwnerTold.{desk_with, channel_with, desk_of, channel_of, Tells}
+use Rattle.nc_owner_laws.specs.OwnerTold.{desk_with, channel_with, desk_of, channel_of, HistoryTells}
 use Rattle.nc_owner_laws.specs.Filters.{new_desk}
 use Rattle.nc_owner_laws.specs.Buffered.{Brief, brief_entry, brief_message, entries_in, LeavesStored}
 use Rattle.nc_owner_laws.specs.Weave.{weave, makes, numbered}
@@ -55,7 +54,7 @@ fold_woven g v next m (Granted w k slot to ∷ es) (a ∷ alerts) x = ap (λ y. 
 fold_woven g v next m (e ∷ es) alerts x = fold_woven g v next m es alerts (g x e)
 
 -- what is made tells nothing of the owner
-pub woven_tells : (first : Desk) (v : ℕ) (next : ℕ → ℕ) (es : List Event) (alerts : List OutLine) (h : List Event) (s : OwnerAt) → AllByRecursion Stays es → Tells first (onto es h) s → Tells first (onto (weave v next es alerts) h) s
+pub woven_tells : (first : Desk) (v : ℕ) (next : ℕ → ℕ) (es : List Event) (alerts : List OutLine) (h : List Event) (s : OwnerAt) → AllByRecursion Stays es → HistoryTells first (onto es h) s → HistoryTells first (onto (weave v next es alerts) h) s
 woven_tells first v next es alerts h s keeps t = record {
   desk = t.desk ∙ onto_desk first es h ∙ sym (fold_woven desk_with v next (λ x to n a. refl) es alerts (desk_of first h)) ∙ sym (onto_desk first (weave v next es alerts) h);
   channels = λ c. t.channels c ∙ onto_channel first c es h keeps ∙ sym (fold_woven (channel_with c (desk_of first h).spent) v next (λ x to n a. refl) es alerts (channel_of first c h))
@@ -144,7 +143,7 @@ pub to_messages : (P : Id → Type 0) (es : List Entry) (ms : List KeptMessage) 
 to_messages P es ms same a = all_unmapped brief_message (λ (y : Brief). P y.id) ms (subst (AllByRecursion (λ (y : Brief). P y.id)) same (all_mapped brief_entry (λ (y : Brief). P y.id) es a))
 
 -- the entries of a channel were stored
-pub entries_stored : (me workers slots first : ℕ) (h : List Event) (c : List ℕ) (s : OwnerAt) → Tells (new_desk me workers slots first) h s → IsStamped workers h → Along LeavesStored h → AllByRecursion (λ e. HasId (published c h) e.id) (entries_of (opened c s))
+pub entries_stored : (me workers slots first : ℕ) (h : List Event) (c : List ℕ) (s : OwnerAt) → HistoryTells (new_desk me workers slots first) h s → IsStamped workers h → Along LeavesStored h → AllByRecursion (λ e. HasId (published c h) e.id) (entries_of (opened c s))
 entries_stored me workers slots first h c s t stamped stored =
     subst (AllByRecursion (λ e. HasId (published c h) e.id)) (sym (made_entries (found c s) s.desk.spent ∙ ap entries_in (t.channels c)))
     (to_entries (HasId (published c h)) (entries_in (channel_of (new_desk me workers slots first) c h)) (buffer c h) (buffer_law me workers slots first c h stamped stored)
@@ -179,7 +178,7 @@ idle_one (Stored w c id slot len exp kept members from r ct body) h i k = absurd
 idle_one (Looked w q from number c after floor past) h i k = absurd i
 idle_one (Removed w c last cause) h i k = absurd i
 idle_one (Left v d id slot cause) h i k = λ w c q x.
-    some_fewer (look_past w c q h) (buffer c h) (buffer c (Left v d id slot cause ∷ h)) (λ after. fewer_kept (λ m. is_past m.id after ≡ false) c h (λ m. name_eq d c && id_eq id m.id) (published c h)) (k w c q x)
+    some_fewer (look_past w c q h) (buffer c h) (buffer c (Left v d id slot cause ∷ h)) (λ after. fewer_kept (λ m. is_past m.id after ≡ false) c h (λ m. bytes_eq d c && id_eq id m.id) (published c h)) (k w c q x)
 idle_one e h i k = λ w c q x. k w c q x
 
 pub idle_onto : (es h : List Event) → AllByRecursion IsIdle es → NothingPast h → NothingPast (onto es h)
@@ -198,8 +197,8 @@ look_case false o after t ms here k e = k e
 
 pub none_past : (v p u number : ℕ) (d : List ℕ) (after : Id) (floor : ℕ) (h : List Event) → AllByRecursion (λ m. is_past m.id after ≡ false) (buffer d h) → NothingPast h → NothingPast (Looked v p u number d after floor None ∷ h)
 none_past v p u number d after floor h none k = λ w c q x.
-    look_case ((p == q) && ((u == w) && name_eq d c)) (look_past w c q h) after (wake w c q h) (buffer c h)
-    (λ b. let n = (and_parts (u == w) (name_eq d c) (and_parts (p == q) ((u == w) && name_eq d c) b).1).1 in subst (λ (y : List ℕ). AllByRecursion (λ m. is_past m.id after ≡ false) (buffer y h)) (same_text d c (sym n)) none)
+    look_case ((p == q) && ((u == w) && bytes_eq d c)) (look_past w c q h) after (wake w c q h) (buffer c h)
+    (λ b. let n = (and_parts (u == w) (bytes_eq d c) (and_parts (p == q) ((u == w) && bytes_eq d c) b).1).1 in subst (λ (y : List ℕ). AllByRecursion (λ m. is_past m.id after ≡ false) (buffer y h)) (same_text d c (sym n)) none)
     (k w c q) x
 
 -- where a message is stored, nobody waits
@@ -216,7 +215,7 @@ stored_case false id t o ks ls same k e = subst (λ (l : List KeptMessage). IfSo
 
 pub stored_past : (v : ℕ) (d : List ℕ) (id : Id) (slot len exp : ℕ) (kept : Bool) (members from r : ℕ) (ct : Option (List ℕ)) (body : List ℕ) (h : List Event) → NothingPast h → NothingPast (Stored v d id slot len exp kept members from r ct body ∷ h)
 stored_past v d id slot len exp kept members from r ct body h k = λ w c q x.
-    stored_case (name_eq d c) id (wake w c q h) (look_past w c q h) (buffer c h) (buffer c (Stored v d id slot len exp kept members from r ct body ∷ h))
-    (λ n. stored_buffer (name_eq d c) kept c (message_of id slot exp ct body) h (λ e. absurd (true≢false (sym e ∙ n))) (λ e. absurd (true≢false (sym e ∙ n)))
-    ∙ ap (λ b. cond b (cond kept (buffer c h ++ message_of id slot exp ct body ∷ []) (buffer c h)) (buffer c h)) n)
+    stored_case (bytes_eq d c) id (wake w c q h) (look_past w c q h) (buffer c h) (buffer c (Stored v d id slot len exp kept members from r ct body ∷ h))
+    (λ n. stored_buffer (bytes_eq d c) kept c (stored_message id slot exp ct body) h (λ e. absurd (true≢false (sym e ∙ n))) (λ e. absurd (true≢false (sym e ∙ n)))
+    ∙ ap (λ b. cond b (cond kept (buffer c h ++ stored_message id slot exp ct body ∷ []) (buffer c h)) (buffer c h)) n)
     (k w c q) x

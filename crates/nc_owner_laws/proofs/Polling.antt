@@ -13,7 +13,7 @@ use Rattle.nc_owner.specs.Poll.{polled_slot, polled_all, slot_of, is_held, is_fr
 use Rattle.nc_owner.specs.Publish.{polled_bench}
 use Rattle.nc_owner_laws.specs.Used.{is_retired, bit, times, Agrees}
 use Rattle.nc_owner_laws.specs.Kept.{slots_in, AreIn}
-use Rattle.nc_owner_laws.specs.Fits.{BenchFits}
+use Rattle.nc_owner_laws.proofs.Benches.{BenchFits}
 use Rattle.nc_owner_laws.proofs.Used.{agrees-same, unless_free, polled_one, eqb_self}
 use Rattle.nc_owner_laws.proofs.Kept.{times-without, in_poll, bit_le}
 

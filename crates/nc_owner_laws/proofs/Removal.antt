@@ -1,11 +1,10 @@
 -- What the removal of a channel wakes.
 use Rattle.std.proofs.Common.{◌≡◌, ℕ, Bool, true, false, cond, not, List, [], ◌∷◌, refl, sym, ap, ◌∙◌, subst}
-use Rattle.std.specs.Prelude.{◌&&◌, ◌||◌, ◌==◌, IfSome}
+use Rattle.std.specs.Prelude.{◌&&◌, ◌||◌, ◌==◌, IfSome, bytes_eq}
 use Rattle.std.specs.List.{AllByRecursion}
 use Rattle.std.specs.Cmp.Lexicographic.{same_text}
 use Rattle.std.proofs.lemmas.Bool.{true≢false}
 use Rattle.nc_types.specs.Id.{Id, is_past}
-use Rattle.nc_types.specs.Channel.{name_eq}
 use Rattle.nc_journal.specs.History.{onto}
 use Rattle.nc_journal.specs.Message.{buffer}
 use Rattle.nc_journal.specs.declared.event.Event.{Event}
@@ -75,8 +74,8 @@ gone_idle Waiting n = absurd (n refl)
 gone_idle (ByNotice id) n = refl
 gone_idle ByGone n = refl
 
-hear_line : (c d : List ℕ) (q : ℕ) (s : Wake) (a : AlertLine) → IsOfRemoval c a → hear d q s a ≡ cond (is_gone_line a && name_eq c d) (woken ByGone s) s
-hear_line c d q s (lines.Gone x subs) e = ap (λ (y : List ℕ). cond (name_eq y d) (woken ByGone s) s) e
+hear_line : (c d : List ℕ) (q : ℕ) (s : Wake) (a : AlertLine) → IsOfRemoval c a → hear d q s a ≡ cond (is_gone_line a && bytes_eq c d) (woken ByGone s) s
+hear_line c d q s (lines.Gone x subs) e = ap (λ (y : List ℕ). cond (bytes_eq y d) (woken ByGone s) s) e
 hear_line c d q s (lines.DelAnswer r status info) e = refl
 hear_line c d q s a e = absurd e
 
@@ -90,12 +89,12 @@ told_case false true false n s = refl
 told_case false false g n s = refl
 
 gone_heard : (v : ℕ) (next : ℕ → ℕ) (c : List ℕ) (alerts : List OutLine) (h : List Event) (w : ℕ) (d : List ℕ) (q : ℕ) → AllByRecursion (λ a. IsOfRemoval c a.line) alerts
-    → heard w d q (onto (makes v next alerts) h) ≡ cond (is_told_gone w alerts && name_eq c d) (woken ByGone (heard w d q h)) (heard w d q h)
+    → heard w d q (onto (makes v next alerts) h) ≡ cond (is_told_gone w alerts && bytes_eq c d) (woken ByGone (heard w d q h)) (heard w d q h)
 gone_heard v next c [] h w d q p = refl
 gone_heard v next c (a ∷ alerts) h w d q p =
     gone_heard v (numbered next a.to) c alerts (Made v a.to (next a.to) a.line ∷ h) w d q p.1
-    ∙ ap (λ x. cond (is_told_gone w alerts && name_eq c d) (woken ByGone (cond (a.to == w) x (heard w d q h))) (cond (a.to == w) x (heard w d q h))) (hear_line c d q (heard w d q h) a.line p.0)
-    ∙ told_case (is_told_gone w alerts) (a.to == w) (is_gone_line a.line) (name_eq c d) (heard w d q h)
+    ∙ ap (λ x. cond (is_told_gone w alerts && bytes_eq c d) (woken ByGone (cond (a.to == w) x (heard w d q h))) (cond (a.to == w) x (heard w d q h))) (hear_line c d q (heard w d q h) a.line p.0)
+    ∙ told_case (is_told_gone w alerts) (a.to == w) (is_gone_line a.line) (bytes_eq c d) (heard w d q h)
 
 -- ---- the removal
 
@@ -114,16 +113,16 @@ removed_heard : (v : ℕ) (next : ℕ → ℕ) (c : List ℕ) (last : Id) (cause
     → Heard (onto (makes v next alerts) (Removed v c last cause ∷ h))
 removed_heard v next c last cause alerts h p tells k =
     let h1 = Removed v c last cause ∷ h in
-    let told = λ (w : ℕ) (d : List ℕ) (q : ℕ) (n : name_eq c d ≡ true) (untold : is_told_gone w alerts ≡ false) (e : wake w d q h ≡ Waiting).
+    let told = λ (w : ℕ) (d : List ℕ) (q : ℕ) (n : bytes_eq c d ≡ true) (untold : is_told_gone w alerts ≡ false) (e : wake w d q h ≡ Waiting).
     true≢false (sym (tells w (subst (λ (x : List ℕ). is_marked x w h ≡ true) (sym (same_text c d (sym n))) (k.waits w d q e))) ∙ untold) in
     record {
       same = λ w d q o.
           gone_heard v next c alerts h1 w d q p
-          ∙ removed_same (is_told_gone w alerts) (name_eq c d) (heard w d q h) (wake w d q h) (k.same w d q (made_only v next alerts h1 d q o)) (told w d q)
+          ∙ removed_same (is_told_gone w alerts) (bytes_eq c d) (heard w d q h) (wake w d q h) (k.same w d q (made_only v next alerts h1 d q o)) (told w d q)
           ∙ sym (made_wake v next alerts h1 w d q);
       waits = λ w d q e.
           made_marked v next alerts h1 w d
-          ∙ removed_waits (name_eq c d) (is_marked d w h) (wake w d q h) (k.waits w d q) (sym (made_wake v next alerts h1 w d q) ∙ e);
+          ∙ removed_waits (bytes_eq c d) (is_marked d w h) (wake w d q h) (k.waits w d q) (sym (made_wake v next alerts h1 w d q) ∙ e);
     }
 
 pub removal_is : (v : ℕ) (next : ℕ → ℕ) (c : List ℕ) (last : Id) (cause : RemovedCause) (lefts : List Event) (alerts : List OutLine) (h : List Event) → AllByRecursion IsLeft lefts
@@ -151,7 +150,7 @@ removed_case true t P k e = absurd (gone_wakes t e)
 removed_case false t P k e = k e
 
 removed_past : (v : ℕ) (c : List ℕ) (last : Id) (cause : RemovedCause) (h : List Event) → NothingPast h → NothingPast (Removed v c last cause ∷ h)
-removed_past v c last cause h k = λ w d q e. removed_case (name_eq c d) (wake w d q h) (IfSome (look_past w d q h) (λ after. AllByRecursion (λ m. is_past m.id after ≡ false) (buffer d h))) (k w d q) e
+removed_past v c last cause h k = λ w d q e. removed_case (bytes_eq c d) (wake w d q h) (IfSome (look_past w d q h) (λ after. AllByRecursion (λ m. is_past m.id after ≡ false) (buffer d h))) (k w d q) e
 
 pub removal_past : RemovalPast
 removal_past h v next c last cause lefts alerts l k = subst NothingPast (sym (removal_is v next c last cause lefts alerts h l))

@@ -1,8 +1,9 @@
 -- An owner stands for its history behind the removal of a channel.
+use Rattle.std.specs.Prelude.{bytes_eq}
 use Rattle.std.proofs.Common.{◌≡◌, ℕ, Bool, true, false, cond, not, List, [], ◌∷◌, ◌++◌, None, refl, sym, ap, ◌∙◌, subst, map, filter, fold}
 use Rattle.std.specs.List.{AllByRecursion}
 use Rattle.nc_types.specs.Id.{Id}
-use Rattle.nc_types.specs.Channel.{owner_of, name_eq}
+use Rattle.nc_types.specs.Channel.{owner_of}
 use Rattle.nc_types.specs.Message.{Message as SlotMessage}
 use Rattle.nc_journal.specs.History.{own, onto, Along}
 use Rattle.nc_journal.specs.Stamp.{IsStamped, last_of}
@@ -24,7 +25,7 @@ use Rattle.nc_owner.specs.Remove.{removed_after, removal_lefts}
 use Rattle.nc_owner_laws.specs.Buffered.{brief_entry, brief_message, LeavesStored}
 use Rattle.nc_owner_laws.specs.Filters.{new_desk}
 use Rattle.nc_owner_laws.specs.OwnerStanding.{Stands}
-use Rattle.nc_owner_laws.specs.OwnerTold.{desk_of, channel_of, desk_with, Tells}
+use Rattle.nc_owner_laws.specs.OwnerTold.{desk_of, channel_of, desk_with, HistoryTells}
 use Rattle.nc_owner_laws.specs.Removal.{IsLeft}
 use Rattle.nc_owner_laws.specs.RemovalStands.{RemovalStands}
 use Rattle.nc_owner_laws.specs.Weave.{weave, makes, numbered}
@@ -89,7 +90,7 @@ module _ (me workers slots first : ℕ) (next : ℕ → ℕ) (c : List ℕ) (las
   local : own s.desk.me h ≡ h
   local = ap (λ n. own n h) is_me ∙ k.local
 
-  tells : Tells (new_desk me workers slots first) (onto (makes s.desk.me next alerts) (Removed s.desk.me c last cause ∷ onto (removal_lefts c left s) h)) (removed_after c last s)
+  tells : HistoryTells (new_desk me workers slots first) (onto (makes s.desk.me next alerts) (Removed s.desk.me c last cause ∷ onto (removal_lefts c left s) h)) (removed_after c last s)
   tells =
       let d0 = new_desk me workers slots first in
       let v = s.desk.me in
@@ -103,11 +104,11 @@ module _ (me workers slots first : ℕ) (next : ℕ → ℕ) (c : List ℕ) (las
         channels = λ d.
             found_after c d false (bench_of c row s) s k.fits.names
             ∙ ap (λ b. cond b None (found d s)) (name_is c d)
-            ∙ by d (name_eq c d) refl
+            ∙ by d (bytes_eq c d) refl
             ∙ sym (made_channel d0 d v next alerts h2);
       }
     where
-      by : (d : List ℕ) (b : Bool) → name_eq c d ≡ b → cond b None (found d s) ≡ cond b None (channel_of (new_desk me workers slots first) d (onto (removal_lefts c left s) h))
+      by : (d : List ℕ) (b : Bool) → bytes_eq c d ≡ b → cond b None (found d s) ≡ cond b None (channel_of (new_desk me workers slots first) d (onto (removal_lefts c left s) h))
       by d true e = refl
       by d false e =
           k.tells.channels d
@@ -148,7 +149,7 @@ removal_stands me workers slots first next c last left cause alerts row h s mine
       fits = remove_fits c last row s k.fits;
       local = own_onto me (weave v next (lefts ++ Removed v c last cause ∷ []) alerts) h
           (all_woven (IsBy me) v next (λ to n a. by_is me v (is_me me workers slots first next c last left cause alerts row h s mine is_last k)) (lefts ++ Removed v c last cause ∷ []) alerts (by_me me workers slots first next c last left cause alerts row h s mine is_last k)) k.local;
-      tells = subst (λ (l : List Event). Tells (new_desk me workers slots first) l (removed_after c last s)) (sym is) (tells me workers slots first next c last left cause alerts row h s mine is_last k);
+      tells = subst (λ (l : List Event). HistoryTells (new_desk me workers slots first) l (removed_after c last s)) (sym is) (tells me workers slots first next c last left cause alerts row h s mine is_last k);
       stamped = subst (IsStamped workers) (sym is) (made_stamped workers v next alerts h2 (stamped1 me workers slots first next c last left cause alerts row h s mine is_last k, record { owner = owned me workers slots first next c last left cause alerts row h s mine is_last k; is_last = last1 }));
       stored = subst (Along LeavesStored) (sym is) (made_stored v next alerts h2 (stored1 me workers slots first next c last left cause alerts row h s mine is_last k, emptied_buffer me workers slots first next c last left cause alerts row h s mine is_last k));
       wakes = (removal_wakes h v next c last cause lefts alerts are gone told k.wakes).wakes;

@@ -1,13 +1,12 @@
 -- What an owner keeps as sets ascends.
 use Rattle.std.proofs.Common.{◌≡◌, ◌≢◌, ℕ, suc, ◌<◌, ◌≤◌, Bool, true, false, cond, not, List, [], ◌∷◌, Option, Some, None, refl, sym, ap, subst, arith, filter, eqb, unwrap_or}
-use Rattle.std.specs.Prelude.{◌==◌, insert, nat_eq, nat_lt}
+use Rattle.std.specs.Prelude.{◌==◌, insert, nat_eq, nat_lt, bytes_eq}
 use Rattle.std.specs.Option.{option_map}
 use Rattle.std.specs.List.{AllByRecursion}
 use Rattle.std.specs.List.Sorted.{IsStrictlySortedBy}
 use Rattle.std.proofs.lemmas.Bool.{or_parts}
 use Rattle.std.proofs.lemmas.Bool.Decides.{nat_tests}
 use Rattle.nc_types.specs.Id.{Id}
-use Rattle.nc_types.specs.Channel.{name_eq}
 use Rattle.nc_journal.specs.declared.event.Event.{Event}
 use Rattle.nc_journal.specs.declared.event.Event.TheVariants.{Stored, Left, Looked, Joined, Parted, Granted, Freed, Removed}
 use Rattle.nc_journal.proofs.Cuts.{all-weaker}
@@ -126,13 +125,13 @@ either_marks true x o p q = p
 either_marks false x o p q = q
 
 marks_with : (c : List ℕ) (spent : Id) (o : Option Channel) (e : Event) → IsAscending (marks_in o) → IsAscending (marks_in (channel_with c spent o e))
-marks_with c spent o (Stored w name id slot len exp kept members from r ct body) s = either_marks (name_eq name c) _ o tt s
-marks_with c spent o (Left w name id slot cause) s = either_marks (name_eq name c) _ o (mapped_marks _ o (λ ch. refl) s) s
-marks_with c spent o (Looked w q from number name after floor past) s = either_marks (name_eq name c) _ o (marks_looked from past (unwrap_or o (made spent)) (opened_marks spent o s)) s
-marks_with c spent o (Joined w name from k) s = either_marks (name_eq name c) _ o (opened_marks spent o s) s
-marks_with c spent o (Parted w name from k) s = either_marks (name_eq name c) _ o (mapped_marks _ o (λ ch. refl) s) s
+marks_with c spent o (Stored w name id slot len exp kept members from r ct body) s = either_marks (bytes_eq name c) _ o tt s
+marks_with c spent o (Left w name id slot cause) s = either_marks (bytes_eq name c) _ o (mapped_marks _ o (λ ch. refl) s) s
+marks_with c spent o (Looked w q from number name after floor past) s = either_marks (bytes_eq name c) _ o (marks_looked from past (unwrap_or o (made spent)) (opened_marks spent o s)) s
+marks_with c spent o (Joined w name from k) s = either_marks (bytes_eq name c) _ o (opened_marks spent o s) s
+marks_with c spent o (Parted w name from k) s = either_marks (bytes_eq name c) _ o (mapped_marks _ o (λ ch. refl) s) s
 marks_with c spent o (Granted w g slot to) s = mapped_marks _ o (λ ch. refl) s
-marks_with c spent o (Removed w name last cause) s = either_marks (name_eq name c) None o tt s
+marks_with c spent o (Removed w name last cause) s = either_marks (bytes_eq name c) None o tt s
 marks_with c spent o e s = s
 
 marks_ascend : (d : Desk) (c : List ℕ) (h : List Event) → IsAscending (marks_in (channel_of d c h))
@@ -170,13 +169,13 @@ take_member : (m : Member) (ch : Channel) → AreSorted ch.members → AreSorted
 take_member m ch s = sorted_removed member_total _ ch.members s
 
 members_with : (c : List ℕ) (spent : Id) (o : Option Channel) (e : Event) → AreSorted (members_in o) → AreSorted (members_in (channel_with c spent o e))
-members_with c spent o (Stored w name id slot len exp kept members from r ct body) s = either_members (name_eq name c) _ o (opened_members spent o s) s
-members_with c spent o (Left w name id slot cause) s = either_members (name_eq name c) _ o (mapped_members _ o (λ ch t. t) s) s
-members_with c spent o (Looked w q from number name after floor past) s = either_members (name_eq name c) _ o (looked_members from past (unwrap_or o (made spent)) (opened_members spent o s)) s
-members_with c spent o (Joined w name from k) s = either_members (name_eq name c) _ o (put_member (record { from = from; k = k }) (unwrap_or o (made spent)).members (opened_members spent o s)) s
-members_with c spent o (Parted w name from k) s = either_members (name_eq name c) _ o (mapped_members _ o (take_member (record { from = from; k = k })) s) s
+members_with c spent o (Stored w name id slot len exp kept members from r ct body) s = either_members (bytes_eq name c) _ o (opened_members spent o s) s
+members_with c spent o (Left w name id slot cause) s = either_members (bytes_eq name c) _ o (mapped_members _ o (λ ch t. t) s) s
+members_with c spent o (Looked w q from number name after floor past) s = either_members (bytes_eq name c) _ o (looked_members from past (unwrap_or o (made spent)) (opened_members spent o s)) s
+members_with c spent o (Joined w name from k) s = either_members (bytes_eq name c) _ o (put_member (record { from = from; k = k }) (unwrap_or o (made spent)).members (opened_members spent o s)) s
+members_with c spent o (Parted w name from k) s = either_members (bytes_eq name c) _ o (mapped_members _ o (take_member (record { from = from; k = k })) s) s
 members_with c spent o (Granted w g slot to) s = mapped_members _ o (λ ch t. t) s
-members_with c spent o (Removed w name last cause) s = either_members (name_eq name c) None o none_sorted s
+members_with c spent o (Removed w name last cause) s = either_members (bytes_eq name c) None o none_sorted s
 members_with c spent o e s = s
 
 members_ascend : (d : Desk) (c : List ℕ) (h : List Event) → AreSorted (members_in (channel_of d c h))

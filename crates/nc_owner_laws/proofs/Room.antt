@@ -18,7 +18,7 @@ use Rattle.nc_owner.specs.Poll.{polled_slot, polled_all, slot_of, is_held, is_fr
 use Rattle.nc_owner.specs.Publish.{Polls, leaving, leaving_count, slots_of, usage_of, is_full, outcome, outcome_by, stored, asked, roomy}
 use Rattle.nc_owner_laws.specs.Used.{is_retired, bit, times, Agrees}
 use Rattle.nc_owner_laws.specs.Kept.{slots_in}
-use Rattle.nc_owner_laws.specs.Fits.{BenchFits}
+use Rattle.nc_owner_laws.proofs.Benches.{BenchFits}
 use Rattle.nc_owner_laws.specs.Keeping.{HoldsFall}
 use Rattle.nc_owner_laws.proofs.Used.{times-append, times_here, agrees-same, unless_free, polled_one, used_fit, room}
 use Rattle.nc_owner_laws.proofs.Kept.{times-insert, times-without, bit_le}

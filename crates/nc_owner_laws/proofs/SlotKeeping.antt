@@ -36,7 +36,7 @@ use Rattle.nc_owner.specs.Remove.{removal_lefts, removal_events, removal_alerts}
 use Rattle.nc_owner.specs.OtherSteps.{touched_of, touch_events_of, info_alerts, parted_events, polled_events}
 use Rattle.nc_owner_laws.specs.Used.{is_retired, bit, times}
 use Rattle.nc_owner_laws.specs.Filters.{new_desk}
-use Rattle.nc_owner_laws.specs.Fits.{BenchFits}
+use Rattle.nc_owner_laws.proofs.Benches.{BenchFits}
 use Rattle.nc_owner_laws.specs.OwnerTold.{desk_of}
 use Rattle.nc_owner_laws.specs.OwnerStanding.{Stands}
 use Rattle.nc_owner_laws.specs.SlotRule.{OwnersSlots, OthersKeepSlots, PublishKeepsSlots}

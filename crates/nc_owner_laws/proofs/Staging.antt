@@ -31,14 +31,15 @@ use Rattle.nc_owner.specs.AlertLines.{OutLine}
 use Rattle.nc_owner.specs.State.{OwnerAt, Bench, entries_of, opened, bench_of}
 use Rattle.nc_owner.specs.Leave.{left_event, left_row, leavers, spend_events}
 use Rattle.nc_owner.specs.Poll.{polled_slot, polled_all, slot_of, is_free, freed_event, freed_events}
-use Rattle.nc_owner.specs.Publish.{Polls, Outcome, late, full, stored, asked, roomy, leaving, leaving_count, slots_of, lowest_slot, granted_slot, granted_events, told_row, kept_row, stamp, message_of, stored_event, stored_events, roomy_events, post_events, post_bench, cleared_events, publish_cleared, publish_outcome, publish_events, publish_alerts, publish_row}
+use Rattle.nc_owner.specs.Publish.{Polls, Outcome, late, full, stored, asked, roomy, leaving, leaving_count, slots_of, lowest_slot, granted_slot, granted_events, told_row, kept_row, stamp, message_of_order, stored_event, stored_events, roomy_events, post_events, post_bench, cleared_events, publish_cleared, publish_outcome, publish_events, publish_alerts, publish_row}
 use Rattle.nc_owner.specs.Look.{found_on, found_row, looked_event, found_events, answered_events, look_ready, look_events, look_alerts, look_row}
 use Rattle.nc_owner.specs.Edge.{last_in}
 use Rattle.nc_owner.specs.Remove.{removal_lefts, removal_events, removal_alerts, removed_row}
 use Rattle.nc_owner.specs.OtherSteps.{touched_of, touch_events_of, touched_row, info_alerts, parted_events, polled_events, polled_row}
 use Rattle.nc_owner_laws.specs.Used.{is_retired, bit, times, Agrees}
 use Rattle.nc_owner_laws.specs.Kept.{slots_in, IsIn, AreIn}
-use Rattle.nc_owner_laws.specs.Fits.{Fits, BenchFits}
+use Rattle.nc_owner_laws.specs.OwnerFits.{OwnerFits}
+use Rattle.nc_owner_laws.proofs.Benches.{BenchFits}
 use Rattle.nc_owner_laws.specs.Stages.{stage_in, AreStaged, NewStaged, OthersStaged, PublishStaged}
 use Rattle.nc_owner_laws.specs.Weave.{weave, makes, numbered}
 use Rattle.nc_owner_laws.proofs.Used.{times-append, times_here}
@@ -312,10 +313,10 @@ unused_row (suc slots) (suc k) = unused_row slots k
 pub new_staged : NewStaged
 new_staged slots k = ap stage_in (sym (unused_row slots k))
 
-pub staged_touch : (c : List ℕ) (row : List (Slot Message)) (s : OwnerAt) → Fits row s → StagedBy row (touch_events_of c row s) (touched_row c row s)
+pub staged_touch : (c : List ℕ) (row : List (Slot Message)) (s : OwnerAt) → OwnerFits row s → StagedBy row (touch_events_of c row s) (touched_row c row s)
 staged_touch c row s f = staged_let_go s.desk.me c Expired (is_expired s.desk.clock) (rest_of c s) (bench_of c row s) (opened_fits c row s f)
 
-staged_removed : (c : List ℕ) (cause : RemovedCause) (row : List (Slot Message)) (s : OwnerAt) → Fits row s → StagedBy row (removal_events c cause s) (removed_row c row s)
+staged_removed : (c : List ℕ) (cause : RemovedCause) (row : List (Slot Message)) (s : OwnerAt) → OwnerFits row s → StagedBy row (removal_events c cause s) (removed_row c row s)
 staged_removed c cause row s f =
     let es = entries_of (opened c s) in
     staged_then row (removed_row c row s) (removed_row c row s) (removal_lefts c Deleted s) (Removed s.desk.me c (last_in c s) cause ∷ [])
@@ -329,7 +330,7 @@ staged_found : (from number : ℕ) (c : List ℕ) (id : Id) (x : Option Entry) (
 staged_found from number c id None d row slot = refl
 staged_found from number c id (Some e) d row slot = sym (keep stage_in row e.slot (granted (slot_at row e.slot)) slot (granted_stage (slot_at row e.slot)))
 
-staged_look : (from number : ℕ) (c : List ℕ) (id : Id) (row : List (Slot Message)) (s : OwnerAt) → Fits row s → StagedBy row (look_events from number c id row s) (look_row from c id row s)
+staged_look : (from number : ℕ) (c : List ℕ) (id : Id) (row : List (Slot Message)) (s : OwnerAt) → OwnerFits row s → StagedBy row (look_events from number c id row s) (look_row from c id row s)
 staged_look from number c id row s f =
     let b = touched_of c row s in
     let ready = look_ready c row s in
@@ -375,7 +376,7 @@ staged_store from o polls rest b before left f some =
     (staged_then ready.row room.row (post_bench stored o polls b).row (lefts ++ frees) (stored_events from o k room)
     (staged_then ready.row gone room.row lefts frees (staged_lefts b.desk.me o.chan Length es ready.row (all_take (λ e. is_unused (slot_at ready.row e.slot) ≡ false) n (entries_of b.channel) (all_used ready.row (entries_of b.channel) f1.kept)))
     (staged_frees b.desk.me polls.left gone gone_fit))
-    (staged_stored from o k (not (o.length == 0)) (message_of (stamp room) o room.desk.clock) (stamp room) (length room.channel.members) room.desk room.desk.grants room.channel.marks room.row refl in_row))
+    (staged_stored from o k (not (o.length == 0)) (message_of_order (stamp room) o room.desk.clock) (stamp room) (length room.channel.members) room.desk room.desk.grants room.channel.marks room.row refl in_row))
 
 staged_post : (x : Outcome) (from : ℕ) (o : Order) (polls : Polls) (rest : List Entry) (b : Bench) → map slot_of polls.leaving ≡ slots_of (leaving o.length b) → map slot_of polls.left ≡ ascending (slots_of (leaving o.length b)) → BenchFits rest b
     → (x ≡ stored → is_some (lowest_unused (roomy o.length polls.left (asked polls.leaving b)).row) ≡ true) → StagedBy b.row (post_events x from o polls b) (post_bench x o polls b).row

@@ -3,7 +3,7 @@ use Rattle.std.proofs.Common.{◌≡◌, ℕ, ◌+◌, ◌≤◌, Bool, true, fa
 use Rattle.std.specs.Prelude.{unwrap_or, nat_le, ◌==◌}
 use Rattle.std.specs.List.{AllByRecursion}
 use Rattle.std.proofs.lemmas.Bool.{leb-true}
-use Rattle.nc_types.specs.Id.{Id}
+use Rattle.nc_types.specs.Id.{Id, last_second}
 use Rattle.nc_types.specs.Channel.{owner_of}
 use Rattle.nc_types.specs.Message.{Message}
 use Rattle.nc_types.specs.declared.info.FullLine.{FullLine}
@@ -27,7 +27,7 @@ use Rattle.nc_owner.specs.Poll.{free_slots, freed_event, freed_events}
 use Rattle.nc_owner.specs.Publish.{Polls, Outcome, late, full, stored, outcome_by, usage_of, is_full, stamp, asked, roomy, leaving, lowest_slot, granted_events, stored_event, stored_events, post_events, publish_cleared, publish_outcome, cleared_events}
 use Rattle.nc_owner.specs.Look.{found_on, looked_event, found_events, look_ready}
 use Rattle.nc_owner.specs.OtherSteps.{touched_of, touch_events_of}
-use Rattle.nc_owner_laws.specs.OwnerTold.{desk_of, channel_of, made, Tells}
+use Rattle.nc_owner_laws.specs.OwnerTold.{desk_of, channel_of, made, HistoryTells}
 use Rattle.nc_owner_laws.specs.Filters.{new_desk}
 use Rattle.nc_owner_laws.specs.Stamped.{IsHistoryOf, PublishStamped, OthersStamped, FloorLaw}
 use Rattle.nc_owner_laws.proofs.Used.{eqb_self}
@@ -149,7 +149,7 @@ me_law d (Stored w c id slot len exp false members from r ct body ∷ h) = me_la
 me_law d (e ∷ h) = me_law d h
 
 -- an owner stamps as its history tells
-pub stamp_law : (me workers slots first : ℕ) (h : List Event) (c : List ℕ) (s : OwnerAt) → Tells (new_desk me workers slots first) h s → next_id (max s.desk.clock s.desk.floor) (opened c s).backlog.last ≡ stamp_of c h
+pub stamp_law : (me workers slots first : ℕ) (h : List Event) (c : List ℕ) (s : OwnerAt) → HistoryTells (new_desk me workers slots first) h s → next_id (max s.desk.clock s.desk.floor) (opened c s).backlog.last ≡ stamp_of c h
 stamp_law me workers slots first h c s t =
     let d = desk_law me workers slots first h in
     let k = desk_of (new_desk me workers slots first) h in
@@ -182,7 +182,7 @@ stored_stamped me workers slots first from h o row s polls g owner t e is =
       owner = is ∙ sym owner;
       stamped = stamp_law me workers slots first h c s g.tells ∙ sym (onto_stamp me c clear h l1) ∙ sym (onto_stamp me c room (onto clear h) l2)
           ∙ ap (stamp_of c) (sym (ap (λ k. own k h2) is ∙ onto_own me room (onto clear h) l2 (onto_own me clear h l1 g.local)));
-      time = leb-true (stamp r).time 253402300799 (in_time (nat_le (stamp r).time 253402300799) (is_full b.desk.slots (usage_of o.length polls b)) (usage_of o.length polls b) e);
+      time = leb-true (stamp r).time last_second (in_time (nat_le (stamp r).time last_second) (is_full b.desk.slots (usage_of o.length polls b)) (usage_of o.length polls b) e);
     } in
     (t2, at)
 

@@ -1,6 +1,6 @@
 -- What the events of each step tell.
 use Rattle.std.proofs.Common.{◌≡◌, ℕ, ◌+◌, ◌<◌, ◌≤◌, Bool, true, false, cond, not, max, List, [], ◌∷◌, ◌++◌, Option, Some, None, refl, sym, ap, ◌∙◌, arith, length, map, fold, drop}
-use Rattle.std.specs.Prelude.{unwrap_or, is_some, ◌==◌, ◌||◌, MatchOption}
+use Rattle.std.specs.Prelude.{unwrap_or, is_some, ◌==◌, ◌||◌, MatchOption, bytes_eq}
 use Rattle.std.specs.Option.{option_map}
 use Rattle.std.specs.List.{AllByRecursion, slice_get, list_any}
 use Rattle.std.specs.Set.{remove_key}
@@ -10,7 +10,6 @@ use Rattle.std.proofs.lemmas.List.Quantifiers.{position-Some}
 use Rattle.std.proofs.lemmas.List.Sums.{fold-append}
 use Rattle.nc_types.specs.Id.{Id}
 use Rattle.nc_types.specs.Message.{Message}
-use Rattle.nc_types.specs.Channel.{name_eq}
 use Rattle.nc_journal.specs.Stamp.{expiry}
 use Rattle.nc_journal.specs.declared.event.Event.{Event}
 use Rattle.nc_journal.specs.declared.event.Event.TheVariants.{Joined, Parted, Stored}
@@ -37,7 +36,8 @@ use Rattle.nc_owner.specs.Look.{found_on, counted_at, found_desk, found_marks, f
 use Rattle.nc_owner.specs.OtherSteps.{touched_of, touch_events_of, joined, parted, parted_events, polled_events}
 use Rattle.nc_owner_laws.specs.Used.{is_retired, times}
 use Rattle.nc_owner_laws.specs.Kept.{slots_in}
-use Rattle.nc_owner_laws.specs.Fits.{Fits, BenchFits}
+use Rattle.nc_owner_laws.specs.OwnerFits.{OwnerFits}
+use Rattle.nc_owner_laws.proofs.Benches.{BenchFits}
 use Rattle.nc_owner_laws.specs.OwnerTold.{desk_with, channel_with, made, with_look, with_grants, new_entry, joined_channel, parted_channel, desk_of, channel_of}
 use Rattle.nc_owner_laws.specs.Telling.{NewTells, TouchTells, JoinTells, PartTells, LookTells, PolledTells, ClockTells, PublishTells}
 use Rattle.nc_owner_laws.proofs.Kept.{bit_le}
@@ -84,7 +84,7 @@ map_some : (f : Channel → Channel) (o : Option Channel) (d : Channel) → opti
 map_some f None d = refl
 map_some f (Some ch) d = refl
 
-own_touch : (c : List ℕ) (row : List (Slot Message)) (s : OwnerAt) → Fits row s → fold (channel_with c s.desk.spent) (found c s) (touch_events_of c row s) ≡ option_map (fresh_channel s.desk.clock) (found c s)
+own_touch : (c : List ℕ) (row : List (Slot Message)) (s : OwnerAt) → OwnerFits row s → fold (channel_with c s.desk.spent) (found c s) (touch_events_of c row s) ≡ option_map (fresh_channel s.desk.clock) (found c s)
 own_touch c row s f = events.own_let_go Expired (is_expired s.desk.clock) c s.desk.spent (found c s) (bench_of c row s) refl (opened_fits c row s f).regular.rises
 
 pub touch_tells : TouchTells
@@ -109,7 +109,7 @@ join_tells first h m c row s f t =
     (fold-append desk_with s.desk (touch_events_of c row s) (e ∷ []) ∙ ap (λ d. desk_with d e) (events.desk_left s.desk.me c Expired go s.desk))
     (fold-append (channel_with c s.desk.spent) (found c s) (touch_events_of c row s) (e ∷ [])
     ∙ ap (λ o. channel_with c s.desk.spent o e) (own_touch c row s f)
-    ∙ joined_case (name_eq c c) (Some (joined_channel m (unwrap_or f1 (made s.desk.spent)))) f1 (events.name_self c)
+    ∙ joined_case (bytes_eq c c) (Some (joined_channel m (unwrap_or f1 (made s.desk.spent)))) f1 (events.name_self c)
     ∙ ap (λ ch. Some (joined_channel m ch)) (sym (events.opened_let_go (is_expired s.desk.clock) s.desk.spent (found c s) (opened c s) refl)))
     (λ d n. fold-append (channel_with d s.desk.spent) (found d s) (touch_events_of c row s) (e ∷ [])
     ∙ ap (λ o. channel_with d s.desk.spent o e) (events.other_left s.desk.me c d Expired s.desk.spent (found d s) go n)
@@ -145,9 +145,9 @@ parted_none m now None d n = refl
 parted_none m now (Some ch) d n = ap (λ ms. Some (record (fresh_channel now ch) { members = ms })) (sym (unremoved (is_at (member_cmp m)) ch.members n))
 
 own_part : (m : Member) (c : List ℕ) (s : OwnerAt) (b : Bool) → has_member m (opened c s).members ≡ b
-    → cond b (cond (name_eq c c) (option_map (parted_channel m) (option_map (fresh_channel s.desk.clock) (found c s))) (option_map (fresh_channel s.desk.clock) (found c s))) (option_map (fresh_channel s.desk.clock) (found c s))
+    → cond b (cond (bytes_eq c c) (option_map (parted_channel m) (option_map (fresh_channel s.desk.clock) (found c s))) (option_map (fresh_channel s.desk.clock) (found c s))) (option_map (fresh_channel s.desk.clock) (found c s))
     ≡ cond (exists c s) (Some (parted_channel m (fresh_channel s.desk.clock (opened c s)))) None
-own_part m c s true is = joined_case (name_eq c c) _ _ (events.name_self c) ∙ parted_some m s.desk.clock (found c s) (new_channel s.desk)
+own_part m c s true is = joined_case (bytes_eq c c) _ _ (events.name_self c) ∙ parted_some m s.desk.clock (found c s) (new_channel s.desk)
 own_part m c s false is = parted_none m s.desk.clock (found c s) (new_channel s.desk) is
 
 pub part_tells : PartTells
@@ -171,7 +171,7 @@ part_tells first h m c row s f t =
 
 -- ---- polls, and the clock
 
-once_retired : (row : List (Slot Message)) (s : OwnerAt) (answers : List PollAnswer) → map slot_of answers ≡ s.desk.retired → Fits row s → (k : ℕ) → times k (map slot_of answers) ≤ 1
+once_retired : (row : List (Slot Message)) (s : OwnerAt) (answers : List PollAnswer) → map slot_of answers ≡ s.desk.retired → OwnerFits row s → (k : ℕ) → times k (map slot_of answers) ≤ 1
 once_retired row s answers each f k = omega (arith, ap (times k) each, f.apart.of_retired k, bit_le (is_retired (slot_at row k)))
 
 -- all retired slots were polled
@@ -194,13 +194,13 @@ clock_tells first h now s t = record { desk = λ i. record (t.desk i) { clock = 
 found_tells : (from number : ℕ) (c : List ℕ) (id : Id) (o : Option Channel) (b : Bench) (place : Option ℕ) (x : Option Entry) → MatchOption place (x ≡ None) (λ k. slice_get (entries_of b.channel) k ≡ x) → b.channel ≡ unwrap_or o (made b.desk.spent)
     → ((e : Entry) → times e.slot (slots_in (entries_of b.channel)) ≤ 1)
     → fold (channel_with c b.desk.spent) o (looked_event from number c id x b.desk ∷ found_events from x b.desk) ≡ Some (record (with_entries (counted_at place (entries_of b.channel)) b.channel) { marks = found_marks from x b.channel.marks })
-found_tells from number c id o b None None p is once = joined_case (name_eq c c) (Some (with_look from None (unwrap_or o (made b.desk.spent)))) o (events.name_self c) ∙ ap (λ (ch : Channel). Some (record ch { marks = with_new_number ch.marks from })) (sym is)
+found_tells from number c id o b None None p is once = joined_case (bytes_eq c c) (Some (with_look from None (unwrap_or o (made b.desk.spent)))) o (events.name_self c) ∙ ap (λ (ch : Channel). Some (record ch { marks = with_new_number ch.marks from })) (sym is)
 found_tells from number c id o b None (Some e) p is once = absurd cc
 found_tells from number c id o b (Some k) None p is once =
-    joined_case (name_eq c c) (Some (with_look from None (unwrap_or o (made b.desk.spent)))) o (events.name_self c) ∙ ap (λ (ch : Channel). Some (record ch { marks = with_new_number ch.marks from })) (sym is)
+    joined_case (bytes_eq c c) (Some (with_look from None (unwrap_or o (made b.desk.spent)))) o (events.name_self c) ∙ ap (λ (ch : Channel). Some (record ch { marks = with_new_number ch.marks from })) (sym is)
     ∙ ap (λ (es : List Entry). Some (record (with_entries es b.channel) { marks = with_new_number b.channel.marks from })) (sym (none_counted k (entries_of b.channel) p))
 found_tells from number c id o b (Some k) (Some e) p is once =
-    ap (λ (y : Option Channel). option_map (with_grants e.slot) y) (joined_case (name_eq c c) (Some (unwrap_or o (made b.desk.spent))) o (events.name_self c)) ∙ ap (λ (ch : Channel). option_map (with_grants e.slot) (Some ch)) (sym is)
+    ap (λ (y : Option Channel). option_map (with_grants e.slot) y) (joined_case (bytes_eq c c) (Some (unwrap_or o (made b.desk.spent))) o (events.name_self c)) ∙ ap (λ (ch : Channel). option_map (with_grants e.slot) (Some ch)) (sym is)
     ∙ ap (λ (es : List Entry). Some (with_entries es b.channel)) (events.counted_at_place k (entries_of b.channel) e p (once e))
 
 found_desk_is : (from number : ℕ) (c : List ℕ) (id : Id) (x : Option Entry) (d : Desk) → fold desk_with d (looked_event from number c id x d ∷ found_events from x d) ≡ found_desk x d
@@ -212,7 +212,7 @@ found_stays from number c id None d = (tt, tt)
 found_stays from number c id (Some e) d = (tt, (tt, tt))
 
 -- another channel has no entry in the slot of the entry that was found
-found_others : (from number : ℕ) (c d : List ℕ) (id : Id) (o : Option Channel) (x : Option Entry) (k : Desk) (sp : Id) → name_eq c d ≡ false → ((e : Entry) → x ≡ Some e → IsWithout e.slot o)
+found_others : (from number : ℕ) (c d : List ℕ) (id : Id) (o : Option Channel) (x : Option Entry) (k : Desk) (sp : Id) → bytes_eq c d ≡ false → ((e : Entry) → x ≡ Some e → IsWithout e.slot o)
     → fold (channel_with d sp) o (looked_event from number c id x k ∷ found_events from x k) ≡ o
 found_others from number c d id o None k sp n without = ap (λ b. cond b (Some (with_look from None (unwrap_or o (made sp)))) o) n
 found_others from number c d id o (Some e) k sp n without =
@@ -279,12 +279,12 @@ stored_counts false id slot exp marks es none = events.counts_none slot marks es
 stored_own : (w : ℕ) (c : List ℕ) (id : Id) (slot len exp : ℕ) (kept : Bool) (members from r : ℕ) (ct : Option (List ℕ)) (body : List ℕ) (g : ℕ) (marks : List ℕ) (sp : Id) (o : Option Channel) (ch : Channel) → ch ≡ unwrap_or o (made sp) → times slot (slots_in (entries_of ch)) ≡ 0
     → fold (channel_with c sp) o (Stored w c id slot len exp kept members from r ct body ∷ granted_events w slot g marks) ≡ Some (kept_channel kept (told_entry id slot exp (length marks)) ch)
 stored_own w c id slot len exp kept members from r ct body g marks sp o ch is none =
-    ap (λ (x : Option Channel). fold (channel_with c sp) x (granted_events w slot g marks)) (joined_case (name_eq c c) (Some (kept_channel kept (new_entry id slot exp) (unwrap_or o (made sp)))) o (events.name_self c))
+    ap (λ (x : Option Channel). fold (channel_with c sp) x (granted_events w slot g marks)) (joined_case (bytes_eq c c) (Some (kept_channel kept (new_entry id slot exp) (unwrap_or o (made sp)))) o (events.name_self c))
     ∙ ap (λ (x : Channel). fold (channel_with c sp) (Some (kept_channel kept (new_entry id slot exp) x)) (granted_events w slot g marks)) (sym is)
     ∙ events.own_granted w slot g c sp (kept_channel kept (new_entry id slot exp) ch) marks
     ∙ ap (λ (es : List Entry). Some (with_entries es (kept_channel kept (new_entry id slot exp) ch))) (stored_counts kept id slot exp marks (entries_of ch) none)
 
-stored_others : (w : ℕ) (c d : List ℕ) (id : Id) (slot len exp : ℕ) (kept : Bool) (members from r : ℕ) (ct : Option (List ℕ)) (body : List ℕ) (g : ℕ) (marks : List ℕ) (sp : Id) (o : Option Channel) → name_eq c d ≡ false → IsWithout slot o
+stored_others : (w : ℕ) (c d : List ℕ) (id : Id) (slot len exp : ℕ) (kept : Bool) (members from r : ℕ) (ct : Option (List ℕ)) (body : List ℕ) (g : ℕ) (marks : List ℕ) (sp : Id) (o : Option Channel) → bytes_eq c d ≡ false → IsWithout slot o
     → fold (channel_with d sp) o (Stored w c id slot len exp kept members from r ct body ∷ granted_events w slot g marks) ≡ o
 stored_others w c d id slot len exp kept members from r ct body g marks sp o n without =
     ap (λ b. fold (channel_with d sp) (cond b (Some (kept_channel kept (new_entry id slot exp) (unwrap_or o (made sp)))) o) (granted_events w slot g marks)) n
@@ -323,7 +323,7 @@ stored_posts rest from o left sp x b f is low =
           ∙ stored_own b.desk.me o.chan (stamp r) slot o.length (expiry b.desk.clock o.timeout) (not (o.length == 0)) (length b.channel.members) from o.r o.content_type o.body b.desk.grants b.channel.marks sp x2 r.channel (events.opened_oldest n sp x b.channel is) none;
     }
 
-stored_elsewhere : (rest : List Entry) (from : ℕ) (o : Order) (left : List PollAnswer) (sp : Id) (d : List ℕ) (x : Option Channel) (b : Bench) → name_eq o.chan d ≡ false → IsWithout (lowest_slot (roomy o.length left b).row) x → fold (channel_with d sp) x (store_events from o left b) ≡ x
+stored_elsewhere : (rest : List Entry) (from : ℕ) (o : Order) (left : List PollAnswer) (sp : Id) (d : List ℕ) (x : Option Channel) (b : Bench) → bytes_eq o.chan d ≡ false → IsWithout (lowest_slot (roomy o.length left b).row) x → fold (channel_with d sp) x (store_events from o left b) ≡ x
 stored_elsewhere rest from o left sp d x b n without =
     let r = roomy o.length left b in
     let slot = lowest_slot r.row in
@@ -357,7 +357,7 @@ post_case stored rest from o polls sp x there b r e is so =
     let p = stored_posts rest from o polls.left sp x a (asked_fits rest _ polls.leaving b r.before r.fits) is (some_is (lowest_unused (roomy o.length polls.left a).row) (room_of rest o.length polls b r e)) in
     record { keeps = p.keeps; desk = p.desk; own = p.own ∙ ap (λ t. cond t (Some (store_bench o polls.left a).channel) None) (sym (or_true there)) }
 
-post_elsewhere : (y : Outcome) (rest : List Entry) (from : ℕ) (o : Order) (polls : Polls) (sp : Id) (d : List ℕ) (x : Option Channel) (b : Bench) → Ready rest o.length polls b → outcome o.length polls b ≡ y → name_eq o.chan d ≡ false
+post_elsewhere : (y : Outcome) (rest : List Entry) (from : ℕ) (o : Order) (polls : Polls) (sp : Id) (d : List ℕ) (x : Option Channel) (b : Bench) → Ready rest o.length polls b → outcome o.length polls b ≡ y → bytes_eq o.chan d ≡ false
     → ((slot : ℕ) → times slot (slots_in rest) ≡ 0 → IsWithout slot x) → fold (channel_with d sp) x (post_events y from o polls b) ≡ x
 post_elsewhere late rest from o polls sp d x b r e n without = refl
 post_elsewhere (full usage) rest from o polls sp d x b r e n without = refl

@@ -23,7 +23,8 @@ use Rattle.nc_owner.specs.Publish.{Polls, PublishPolls, Outcome, late, full, sto
 use Rattle.nc_owner.specs.OtherSteps.{touched_of, touched_row, touch_after, joined, parted}
 use Rattle.nc_owner_laws.specs.Used.{is_retired, bit, times}
 use Rattle.nc_owner_laws.specs.Kept.{slots_in}
-use Rattle.nc_owner_laws.specs.Fits.{all_entries, Fits, BenchFits}
+use Rattle.nc_owner_laws.specs.OwnerFits.{all_entries, OwnerFits}
+use Rattle.nc_owner_laws.proofs.Benches.{BenchFits}
 use Rattle.nc_owner_laws.specs.Keeping.{NewFits, TouchFits, RemoveFits, DeleteFits, SweepFits, JoinFits, PartFits, LookFits, PolledFits, ClockFits, PublishFits, PublishFinds}
 use Rattle.nc_owner_laws.proofs.Used.{agrees-same}
 use Rattle.nc_owner_laws.proofs.Leaving.{leave_fits, let_go_fits}
@@ -65,7 +66,7 @@ not_there (Some ch) e = absurd cc
 pub nothing_there : (c : List ℕ) (row : List (Slot Message)) (s : OwnerAt) → exists c s ≡ false → entries_of (touched_of c row s).channel ≡ []
 nothing_there c row s e = ap (λ (o : Option Channel). stayers (is_expired s.desk.clock) (entries_of (unwrap_or o (new_channel s.desk)))) (not_there (found c s) e)
 
-pub touched_fits : (c : List ℕ) (row : List (Slot Message)) (s : OwnerAt) → Fits row s → BenchFits (rest_of c s) (touched_of c row s)
+pub touched_fits : (c : List ℕ) (row : List (Slot Message)) (s : OwnerAt) → OwnerFits row s → BenchFits (rest_of c s) (touched_of c row s)
 touched_fits c row s f = let_go_fits (rest_of c s) (is_expired s.desk.clock) (bench_of c row s) (opened_fits c row s f)
 
 pub touch_fits : TouchFits
@@ -97,7 +98,7 @@ remove_fits c last row s f =
     let g = gone_fits c (emptied (bench_of c row s)) row s f (emptied_fits (rest_of c s) (bench_of c row s) (opened_fits c row s f)) refl in
     record { names = g.names; slots = g.slots; apart = g.apart; number = g.number; kept = g.kept; regular = g.regular }
 
-removal_fits : (goes : Bool) (c : List ℕ) (row : List (Slot Message)) (s : OwnerAt) → Fits row s → Fits (row_of_removal goes c row s) (after_removal goes c s)
+removal_fits : (goes : Bool) (c : List ℕ) (row : List (Slot Message)) (s : OwnerAt) → OwnerFits row s → OwnerFits (row_of_removal goes c row s) (after_removal goes c s)
 removal_fits true c row s f = remove_fits c (last_in c s) row s f
 removal_fits false c row s f = f
 
@@ -125,7 +126,7 @@ clock_fits now row s f = record { names = f.names; slots = f.slots; apart = f.ap
 -- ---- a publish
 
 -- what a publish finds once the channel was touched and the retired slots were polled
-pub cleared_ready : (exact : Bool) (counts : List ℕ) (o : Order) (row : List (Slot Message)) (s : OwnerAt) (polls : Polls) → PublishPolls exact counts o row s polls → Fits row s
+pub cleared_ready : (exact : Bool) (counts : List ℕ) (o : Order) (row : List (Slot Message)) (s : OwnerAt) (polls : Polls) → PublishPolls exact counts o row s polls → OwnerFits row s
     → Ready (rest_of o.chan s) o.length polls (publish_cleared o polls row s)
 cleared_ready exact counts o row s polls p f = record {
   fits = polled_fits (rest_of o.chan s) polls.retired (touched_of o.chan row s) p.first.each (touched_fits o.chan row s f);

@@ -18,10 +18,11 @@ use Rattle.nc_owner.specs.declared.order.Order.{Order}
 use Rattle.nc_owner.specs.Ascending.{place_above}
 use Rattle.nc_owner.specs.Backlog.{IsBacklog}
 use Rattle.nc_owner.specs.State.{Bench, entries_of}
-use Rattle.nc_owner.specs.Publish.{stamp, message_of, granted_slot, granted_desk, told_row, kept_desk, kept_row, kept_channel, entry_of, stored_bench}
+use Rattle.nc_owner.specs.Publish.{stamp, message_of_order, granted_slot, granted_desk, told_row, kept_desk, kept_row, kept_channel, entry_of, stored_bench}
 use Rattle.nc_owner_laws.specs.Used.{bit, times, Agrees}
 use Rattle.nc_owner_laws.specs.Kept.{slots_in, IsIn}
-use Rattle.nc_owner_laws.specs.Fits.{IsRegular, BenchFits}
+use Rattle.nc_owner_laws.specs.OwnerFits.{IsRegular}
+use Rattle.nc_owner_laws.proofs.Benches.{BenchFits}
 use Rattle.nc_owner_laws.proofs.Used.{leaves_row, times-append, agrees-same, left_one, put_one, granted_one}
 use Rattle.nc_owner_laws.proofs.Kept.{times-insert, all_append, rising-push, in_where}
 use Rattle.nc_owner_laws.proofs.Leaving.{slots_append}
@@ -81,16 +82,16 @@ granted_here slot m n (to ∷ marks) row lt is =
 abbrev pub stored_as : Bool → Order → ℕ → Bench → Bench
 stored_as kept o slot b = record {
   desk = record (kept_desk kept slot (granted_desk b.channel.marks b.desk)) { floor = max b.desk.floor (stamp b).time };
-  row = kept_row kept slot (told_row (message_of (stamp b) o b.desk.clock) slot b.channel.marks b.row);
+  row = kept_row kept slot (told_row (message_of_order (stamp b) o b.desk.clock) slot b.channel.marks b.row);
   channel = kept_channel kept (entry_of o (stamp b) slot b.desk.clock (length b.channel.marks)) b.channel;
 }
 
 pub record Told (rest : List Entry) (o : Order) (slot : ℕ) (b : Bench) : Type 0 where
-  pub slots : length (told_row (message_of (stamp b) o b.desk.clock) slot b.channel.marks b.row) ≡ b.desk.slots
-  pub apart : Agrees (λ k. (times k (slots_in rest) + times k (slots_in (entries_of b.channel))) + bit (eqb slot k)) (λ k. times k b.desk.retired) (told_row (message_of (stamp b) o b.desk.clock) slot b.channel.marks b.row)
+  pub slots : length (told_row (message_of_order (stamp b) o b.desk.clock) slot b.channel.marks b.row) ≡ b.desk.slots
+  pub apart : Agrees (λ k. (times k (slots_in rest) + times k (slots_in (entries_of b.channel))) + bit (eqb slot k)) (λ k. times k b.desk.retired) (told_row (message_of_order (stamp b) o b.desk.clock) slot b.channel.marks b.row)
   pub same : (s : ℕ) → 0 < times s (slots_in rest) + times s (slots_in (entries_of b.channel)) → s ≢ slot
-  pub others : (s : ℕ) → s ≢ slot → slot_at (told_row (message_of (stamp b) o b.desk.clock) slot b.channel.marks b.row) s ≡ slot_at b.row s
-  pub here : slot_at (told_row (message_of (stamp b) o b.desk.clock) slot b.channel.marks b.row) slot ≡ Buffered (message_of (stamp b) o b.desk.clock) false (0 + length b.channel.marks)
+  pub others : (s : ℕ) → s ≢ slot → slot_at (told_row (message_of_order (stamp b) o b.desk.clock) slot b.channel.marks b.row) s ≡ slot_at b.row s
+  pub here : slot_at (told_row (message_of_order (stamp b) o b.desk.clock) slot b.channel.marks b.row) slot ≡ Buffered (message_of_order (stamp b) o b.desk.clock) false (0 + length b.channel.marks)
 
 pub unused_not : (x : Slot Message) → is_unused x ≡ true → bit (is_buffered x) ≡ 0
 unused_not Unused e = refl
@@ -99,7 +100,7 @@ unused_not (Retired clear grants) e = absurd (true≢false (sym e))
 
 pub told_fits : (rest : List Entry) (o : Order) (slot : ℕ) (b : Bench) → lowest_unused b.row ≡ Some slot → BenchFits rest b → Told rest o slot b
 told_fits rest o slot b low f =
-    let m = message_of (stamp b) o b.desk.clock in
+    let m = message_of_order (stamp b) o b.desk.clock in
     let row1 = set b.row slot (filled m) in
     let p = position-Some is_unused b.row slot Unused low in
     record {
@@ -126,7 +127,7 @@ one_slot s slot xs e is = ap (times s) (slots_append xs (e ∷ [])) ∙ times-ap
 pub stored_as_fits : (kept : Bool) (rest : List Entry) (o : Order) (slot : ℕ) (b : Bench) → Told rest o slot b → BenchFits rest b → BenchFits rest (stored_as kept o slot b)
 stored_as_fits true rest o slot b t f =
     let e = entry_of o (stamp b) slot b.desk.clock (length b.channel.marks) in
-    let row2 = told_row (message_of (stamp b) o b.desk.clock) slot b.channel.marks b.row in
+    let row2 = told_row (message_of_order (stamp b) o b.desk.clock) slot b.channel.marks b.row in
     let keeps = λ (s : ℕ) (lt : 0 < times s (slots_in rest) + times s (slots_in (entries_of b.channel))). t.others s (t.same s lt) in
     record {
       slots = t.slots;
@@ -140,7 +141,7 @@ stored_as_fits true rest o slot b t f =
     }
 stored_as_fits false rest o slot b t f =
     let e = entry_of o (stamp b) slot b.desk.clock (length b.channel.marks) in
-    let row2 = told_row (message_of (stamp b) o b.desk.clock) slot b.channel.marks b.row in
+    let row2 = told_row (message_of_order (stamp b) o b.desk.clock) slot b.channel.marks b.row in
     let keeps = λ (s : ℕ) (lt : 0 < times s (slots_in rest) + times s (slots_in (entries_of b.channel))).
     get_or-set_other row2 slot s (retired (slot_at row2 slot)) Unused (t.same s lt) ∙ t.others s (t.same s lt) in
     record {

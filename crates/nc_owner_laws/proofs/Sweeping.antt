@@ -4,7 +4,6 @@ use Rattle.std.specs.List.{AllByRecursion}
 use Rattle.nc_types.specs.Channel.{owner_of}
 use Rattle.nc_types.specs.Message.{Message}
 use Rattle.nc_types.specs.declared.info.Info.{Info}
-use Rattle.nc_journal.specs.declared.event.Event.{Event}
 use Rattle.nc_journal.specs.declared.word.LeftCause.{LeftCause}
 use Rattle.nc_journal.specs.declared.word.LeftCause.TheVariants.{Expired, Deleted}
 use Rattle.nc_journal.specs.declared.word.RemovedCause.{RemovedCause}
@@ -14,14 +13,13 @@ use Rattle.nc_buffer.specs.declared.entry.Entry.{Entry}
 use Rattle.nc_slots.specs.declared.slot.Slot.{Slot}
 use Rattle.nc_owner.specs.declared.member.Member.{Member}
 use Rattle.nc_owner.specs.AlertLines.{OutLine}
-use Rattle.nc_owner.specs.Edge.{last_in}
 use Rattle.nc_owner.specs.Leave.{left_event, leavers}
 use Rattle.nc_owner.specs.OtherSteps.{touch_events_of, touched_of, touch_after, names_of}
 use Rattle.nc_owner.specs.Publish.{info_of}
-use Rattle.nc_owner.specs.Remove.{removal_lefts, concerned, gone_line, delete_answer, delete_events, delete_alerts, events_of_removal, alerts_of_removal, after_removal, is_reaped, sweep_events, sweep_alerts, sweep_after}
+use Rattle.nc_owner.specs.Remove.{removal_lefts, concerned, gone_line, delete_answer, delete_alerts, events_of_removal, alerts_of_removal, after_removal, is_reaped}
 use Rattle.nc_owner.specs.State.{OwnerAt, bench_of, entries_of, exists, opened}
-use Rattle.nc_reaper.specs.Reap.{Swept, state, swept, swept_all, sweep_step}
-use Rattle.nc_owner_laws.specs.Sweeping.{IsOfRemovals, IsLoss, IsOfDeletion, SweepsAre, ReapsAre, DeletionIs, DeletionsAre}
+use Rattle.nc_reaper.specs.Reap.{Swept, state, swept, sweep_step}
+use Rattle.nc_owner_laws.specs.Sweeping.{IsOfRemovals, IsLoss, IsOfDeletion, SweepsAre, ReapsAre, DeletionsAre}
 use Rattle.nc_owner_laws.proofs.Kept.{all_append}
 
 module _ (workers me : ℕ) (c : List ℕ) (mine : owner_of workers c ≡ me) where

@@ -50,18 +50,22 @@ pub record StepsAnswerNew (next : ℕ → ℕ) (row : List (Slot Message)) (h : 
   pub part : (m : Member) (c : List ℕ) → Along AnswersNew (onto (weave s.desk.me next (part_events m c row s) []) h)
   pub info : (from r : ℕ) (c : List ℕ) → Along AnswersNew (onto (weave s.desk.me next (touch_events_of c row s) (info_alerts from r c row s)) h)
   pub sweep : (c : List ℕ) → Along AnswersNew (onto (weave s.desk.me next (touch_events_of c row s) []) h)
-  pub look : (from number : ℕ) (c : List ℕ) (id : Id) → Along AnswersNew (onto (weave s.desk.me next (look_events from number c id row s) (look_alerts from number c id row s)) h)
+  pub look : (from number : ℕ) (c : List ℕ) (id : Id)
+      → Along AnswersNew (onto (weave s.desk.me next (look_events from number c id row s) (look_alerts from number c id row s)) h)
   pub polled : (answers : List PollAnswer) → Along AnswersNew (onto (weave s.desk.me next (polled_events answers s) []) h)
   pub clock : (now : ℕ) → Along AnswersNew (Clock s.desk.me now ∷ h)
 
 abbrev pub OthersAnswerNew : Type 0
-OthersAnswerNew = (me workers slots first : ℕ) (next : ℕ → ℕ) (row : List (Slot Message)) (h : List Event) (s : OwnerAt) → Stands me workers slots first row h s → InOrder first h → Along AnswersNew h → StepsAnswerNew next row h s
+OthersAnswerNew = (me workers slots first : ℕ) (next : ℕ → ℕ) (row : List (Slot Message)) (h : List Event) (s : OwnerAt)
+    → Stands me workers slots first row h s → InOrder first h → Along AnswersNew h → StepsAnswerNew next row h s
 
 abbrev pub PublishAnswersNew : Type 0
-PublishAnswersNew = (next : ℕ → ℕ) (from : ℕ) (o : Order) (polls : Polls) (row : List (Slot Message)) (h : List Event) (s : OwnerAt) → Along AnswersNew h
+PublishAnswersNew = (next : ℕ → ℕ) (from : ℕ) (o : Order) (polls : Polls) (row : List (Slot Message)) (h : List Event) (s : OwnerAt)
+    → Along AnswersNew h
     → Along AnswersNew (onto (weave s.desk.me next (publish_events from o polls row s) (publish_alerts from o polls row s)) h)
 
 -- a removal of a channel keeps it
 abbrev pub RemovalAnswersNew : Type 0
 RemovalAnswersNew = (h : List Event) (v : ℕ) (next : ℕ → ℕ) (c : List ℕ) (last : Id) (cause : RemovedCause) (lefts : List Event) (alerts : List OutLine)
-    → AllByRecursion IsLeft lefts → AllByRecursion (λ a. IsOfRemoval c a.line) alerts → Along AnswersNew h → Along AnswersNew (removal_onto v next c last cause lefts alerts h)
+    → AllByRecursion IsLeft lefts → AllByRecursion (λ a. IsOfRemoval c a.line) alerts → Along AnswersNew h
+    → Along AnswersNew (removal_onto v next c last cause lefts alerts h)

@@ -22,4 +22,5 @@ pub record Ascends (s : OwnerAt) : Type 0 where
 
 -- so it is of an owner that stands for its history
 abbrev pub StandsAscends : Type 0
-StandsAscends = (me workers slots first : ℕ) (row : List (Slot Message)) (h : List Event) (s : OwnerAt) → Stands me workers slots first row h s → Ascends s
+StandsAscends = (me workers slots first : ℕ) (row : List (Slot Message)) (h : List Event) (s : OwnerAt) → Stands me workers slots first row h s
+    → Ascends s

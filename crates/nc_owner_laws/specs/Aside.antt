@@ -38,7 +38,8 @@ IsAside _ = Unit {0}
 
 -- an owner stands for its history with such an event more, in which all is in order and each look is answered once
 abbrev pub AsideStands : Type 0
-AsideStands = (me workers slots first : ℕ) (row : List (Slot Message)) (h : List Event) (s : OwnerAt) (e : Event) → IsAside e → is_by me e ≡ true → Stands me workers slots first row h s → Stands me workers slots first row (e ∷ h) s
+AsideStands = (me workers slots first : ℕ) (row : List (Slot Message)) (h : List Event) (s : OwnerAt) (e : Event) → IsAside e → is_by me e ≡ true
+    → Stands me workers slots first row h s → Stands me workers slots first row (e ∷ h) s
 
 abbrev pub AsideInOrder : Type 0
 AsideInOrder = (first : ℕ) (h : List Event) (e : Event) → IsAside e → InOrder first h → InOrder first (e ∷ h)

@@ -49,7 +49,8 @@ pub record WokenByFirst (me w : ℕ) (c : List ℕ) (q : ℕ) (id : Id) (h : Lis
   pub first : IsFirstOf id (published c look.since)
 
 abbrev pub NoticeIsFirst : Type 0
-NoticeIsFirst = (me workers slots first : ℕ) (row : List (Slot KeptMessage)) (h : List Event) (s : OwnerAt) → Stands me workers slots first row h s → InOrder first h
+NoticeIsFirst = (me workers slots first : ℕ) (row : List (Slot KeptMessage)) (h : List Event) (s : OwnerAt) → Stands me workers slots first row h s
+    → InOrder first h
     → (w : ℕ) (c : List ℕ) (q : ℕ) (id : Id) → wake w c q h ≡ ByNotice id → WokenByFirst me w c q id h
 
 -- a look that waits: since then nothing was stored there, its worker is marked, and no message that is buffered now is past its id
@@ -62,7 +63,8 @@ pub record StillWaits (me w : ℕ) (c : List ℕ) (q : ℕ) (h : List Event) (s 
   pub nothing_kept : NonePast look.after (entries_in (found c s))
 
 abbrev pub ShowsLooks : Type 0
-ShowsLooks = (me workers slots first : ℕ) (row : List (Slot KeptMessage)) (h : List Event) (s : OwnerAt) → Stands me workers slots first row h s → InOrder first h
+ShowsLooks = (me workers slots first : ℕ) (row : List (Slot KeptMessage)) (h : List Event) (s : OwnerAt) → Stands me workers slots first row h s
+    → InOrder first h
     → (w : ℕ) (c : List ℕ) (q : ℕ) → wake w c q h ≡ Waiting → StillWaits me w c q h s
 
 -- the answer to a look that found nothing tells the number and the floor of that look, and that nothing was found

@@ -35,4 +35,5 @@ pub record DrawsOnce (h : List Event) (s : OwnerAt) : Type 0 where
   pub only : (w : ℕ) (c : List ℕ) (q : ℕ) → (wake w c q h ≡ NotYet → ⊥) → IsOnlyAt c q h
 
 abbrev pub DrawnOnce : Type 0
-DrawnOnce = (me workers slots first : ℕ) (row : List (Slot Message)) (h : List Event) (s : OwnerAt) → Stands me workers slots first row h s → InOrder first h → DrawsOnce h s
+DrawnOnce = (me workers slots first : ℕ) (row : List (Slot Message)) (h : List Event) (s : OwnerAt) → Stands me workers slots first row h s
+    → InOrder first h → DrawsOnce h s

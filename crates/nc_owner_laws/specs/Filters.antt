@@ -1,8 +1,7 @@
 -- What a local history tells of an owner event by event, and what the definitions filter from it.
-use Rattle.std.specs.Prelude.{◌≡◌, ℕ, Bool, false, List, [], ◌∷◌, Option, None, Some, if◌then◌else◌, ◌==◌, ◌&&◌, ◌||◌, not}
+use Rattle.std.specs.Prelude.{◌≡◌, ℕ, Bool, false, List, [], ◌∷◌, Option, None, Some, if◌then◌else◌, ◌==◌, ◌&&◌, ◌||◌, not, bytes_eq}
 use Rattle.std.specs.Option.{option_map}
 use Rattle.nc_types.specs.Id.{Id}
-use Rattle.nc_types.specs.Channel.{name_eq}
 use Rattle.nc_journal.specs.Stamp.{clock_of, floor_of, spent_of, made_last}
 use Rattle.nc_journal.specs.declared.event.Event.{Event}
 use Rattle.nc_journal.specs.declared.event.Event.TheVariants.{Stored, Looked, Joined, Parted, Removed}
@@ -30,8 +29,8 @@ DeskLaw = (me workers slots first : ℕ) (h : List Event) → DeskFilters (desk_
 -- the id of the last message of a channel since it was made
 abbrev pub latest_of : List ℕ → List Event → Option Id
 latest_of c [] = None
-latest_of c (Stored w d id slot len exp kept members from r ct body ∷ h) = if name_eq d c then Some id else latest_of c h
-latest_of c (Removed w d last cause ∷ h) = if name_eq d c then None else latest_of c h
+latest_of c (Stored w d id slot len exp kept members from r ct body ∷ h) = if bytes_eq d c then Some id else latest_of c h
+latest_of c (Removed w d last cause ∷ h) = if bytes_eq d c then None else latest_of c h
 latest_of c (e ∷ h) = latest_of c h
 
 -- whether a subscriber is a member of a channel: it joined, and since then it didn't part and the channel wasn't removed
@@ -40,17 +39,17 @@ is_same m from k = (m.from == from) && (m.k == k)
 
 abbrev pub is_member : List ℕ → Member → List Event → Bool
 is_member c m [] = false
-is_member c m (Joined w d from k ∷ h) = (name_eq d c && is_same m from k) || is_member c m h
-is_member c m (Parted w d from k ∷ h) = not (name_eq d c && is_same m from k) && is_member c m h
-is_member c m (Removed w d last cause ∷ h) = not (name_eq d c) && is_member c m h
+is_member c m (Joined w d from k ∷ h) = (bytes_eq d c && is_same m from k) || is_member c m h
+is_member c m (Parted w d from k ∷ h) = not (bytes_eq d c && is_same m from k) && is_member c m h
+is_member c m (Removed w d last cause ∷ h) = not (bytes_eq d c) && is_member c m h
 is_member c m (e ∷ h) = is_member c m h
 
 -- whether a worker is marked at a channel: it looked and found nothing, and since then no message was stored and the channel wasn't removed
 abbrev pub is_marked : List ℕ → ℕ → List Event → Bool
 is_marked c u [] = false
-is_marked c u (Looked w q from number d after floor None ∷ h) = (name_eq d c && (u == from)) || is_marked c u h
-is_marked c u (Stored w d id slot len exp kept members from r ct body ∷ h) = not (name_eq d c) && is_marked c u h
-is_marked c u (Removed w d last cause ∷ h) = not (name_eq d c) && is_marked c u h
+is_marked c u (Looked w q from number d after floor None ∷ h) = (bytes_eq d c && (u == from)) || is_marked c u h
+is_marked c u (Stored w d id slot len exp kept members from r ct body ∷ h) = not (bytes_eq d c) && is_marked c u h
+is_marked c u (Removed w d last cause ∷ h) = not (bytes_eq d c) && is_marked c u h
 is_marked c u (e ∷ h) = is_marked c u h
 
 -- the parts of a channel, if it exists

@@ -15,7 +15,7 @@ use Rattle.nc_owner.specs.Publish.{Polls, PublishPolls, cleared, leaving, slots_
 use Rattle.nc_owner.specs.Look.{look_row, look_holds}
 use Rattle.nc_owner.specs.OtherSteps.{touched_row, polled_row}
 use Rattle.nc_owner.specs.Remove.{removed_row}
-use Rattle.nc_owner_laws.specs.Fits.{Fits}
+use Rattle.nc_owner_laws.specs.OwnerFits.{OwnerFits}
 
 -- each slot has at most as many holds as it can have
 abbrev pub HoldsFit : List (Slot Message) → List ℕ → Type 0
@@ -47,14 +47,16 @@ pub record StepsHold (row : List (Slot Message)) (counts : List ℕ) (s : OwnerA
   pub look : (from : ℕ) (c : List ℕ) (id : Id) → HoldsFit (look_row from c id row s) (look_holds from c id row s counts)
   pub polled : HoldsFit (polled_row (told_answers counts s.desk.retired) row) counts
   pub release : (slot : ℕ) → HoldsFit row (one_less slot counts)
-  pub publish : (o : Order) (polls : Polls) → PublishPolls true counts o row s polls → HoldsFit (publish_row o polls row s) (publish_holds o polls row s counts)
+  pub publish : (o : Order) (polls : Polls) → PublishPolls true counts o row s polls
+      → HoldsFit (publish_row o polls row s) (publish_holds o polls row s counts)
 
 abbrev pub HoldsKept : Type 0
-HoldsKept = (row : List (Slot Message)) (counts : List ℕ) (s : OwnerAt) → Fits row s → HoldsFit row counts → StepsHold row counts s
+HoldsKept = (row : List (Slot Message)) (counts : List ℕ) (s : OwnerAt) → OwnerFits row s → HoldsFit row counts → StepsHold row counts s
 
 -- then the told numbers are answers of a publish's polls
 abbrev pub ToldPolls : Type 0
-ToldPolls = (row : List (Slot Message)) (counts : List ℕ) (s : OwnerAt) (o : Order) → HoldsFit row counts → PublishPolls true counts o row s (told_polls counts o row s)
+ToldPolls = (row : List (Slot Message)) (counts : List ℕ) (s : OwnerAt) (o : Order) → HoldsFit row counts
+    → PublishPolls true counts o row s (told_polls counts o row s)
 
 -- and of polls of all retired slots
 abbrev pub ToldAnswersFit : Type 0

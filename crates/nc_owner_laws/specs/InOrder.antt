@@ -68,7 +68,8 @@ HasLook v q u number floor found (e ∷ h) = HasLook v q u number floor found h
 -- a history has an edge of an owner: its number, the worker, the worker's number, the floor and the last id
 abbrev pub HasEdge : (v q u number floor : ℕ) → Id → List Event → Type 0
 HasEdge v q u number floor last [] = ⊥
-HasEdge v q u number floor last (Edged w p from n k c f id ∷ h) = ((w ≡ v) × (p ≡ q) × (from ≡ u) × (n ≡ number) × (f ≡ floor) × (id ≡ last)) ⊎ HasEdge v q u number floor last h
+HasEdge v q u number floor last (Edged w p from n k c f id ∷ h) = ((w ≡ v) × (p ≡ q) × (from ≡ u) × (n ≡ number) × (f ≡ floor) × (id ≡ last))
+    ⊎ HasEdge v q u number floor last h
 HasEdge v q u number floor last (e ∷ h) = HasEdge v q u number floor last h
 
 abbrev pub AnswersLook : (v to : ℕ) → List Event → AlertLine → Type 0
@@ -95,12 +96,14 @@ pub record StepsInOrder (first : ℕ) (next : ℕ → ℕ) (row : List (Slot Mes
   pub part : (m : Member) (c : List ℕ) → InOrder first (onto (weave s.desk.me next (part_events m c row s) []) h)
   pub info : (from r : ℕ) (c : List ℕ) → InOrder first (onto (weave s.desk.me next (touch_events_of c row s) (info_alerts from r c row s)) h)
   pub sweep : (c : List ℕ) → InOrder first (onto (weave s.desk.me next (touch_events_of c row s) []) h)
-  pub look : (from number : ℕ) (c : List ℕ) (id : Id) → InOrder first (onto (weave s.desk.me next (look_events from number c id row s) (look_alerts from number c id row s)) h)
+  pub look : (from number : ℕ) (c : List ℕ) (id : Id)
+      → InOrder first (onto (weave s.desk.me next (look_events from number c id row s) (look_alerts from number c id row s)) h)
   pub polled : (answers : List PollAnswer) → InOrder first (onto (weave s.desk.me next (polled_events answers s) []) h)
   pub clock : (now : ℕ) → InOrder first (Clock s.desk.me now ∷ h)
 
 abbrev pub OthersInOrder : Type 0
-OthersInOrder = (me workers slots first : ℕ) (next : ℕ → ℕ) (row : List (Slot Message)) (h : List Event) (s : OwnerAt) → Stands me workers slots first row h s → InOrder first h → StepsInOrder first next row h s
+OthersInOrder = (me workers slots first : ℕ) (next : ℕ → ℕ) (row : List (Slot Message)) (h : List Event) (s : OwnerAt)
+    → Stands me workers slots first row h s → InOrder first h → StepsInOrder first next row h s
 
 abbrev pub PublishInOrder : Type 0
 PublishInOrder = (me workers slots first : ℕ) (next : ℕ → ℕ) (from : ℕ) (o : Order) (polls : Polls) (row : List (Slot Message)) (h : List Event) (s : OwnerAt) → Stands me workers slots first row h s → InOrder first h
@@ -109,4 +112,5 @@ PublishInOrder = (me workers slots first : ℕ) (next : ℕ → ℕ) (from : ℕ
 -- a removal of a channel keeps it
 abbrev pub RemovalInOrder : Type 0
 RemovalInOrder = (first : ℕ) (h : List Event) (v : ℕ) (next : ℕ → ℕ) (c : List ℕ) (last : Id) (cause : RemovedCause) (lefts : List Event) (alerts : List OutLine)
-    → AllByRecursion IsLeft lefts → AllByRecursion (λ a. IsOfRemoval c a.line) alerts → InOrder first h → InOrder first (removal_onto v next c last cause lefts alerts h)
+    → AllByRecursion IsLeft lefts → AllByRecursion (λ a. IsOfRemoval c a.line) alerts → InOrder first h
+    → InOrder first (removal_onto v next c last cause lefts alerts h)

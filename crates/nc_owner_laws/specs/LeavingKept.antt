@@ -28,17 +28,23 @@ AreCounted h es = AllByRecursion (λ e. (e.grants ≡ grants_since e.slot h) × 
 
 -- what each step but a publish keeps, on a channel of the owner; a look counts grants, and a channel that is removed without a deletion keeps nothing
 pub record StepsLeave (workers : ℕ) (next : ℕ → ℕ) (row : List (Slot Message)) (h : List Event) (s : OwnerAt) : Type 0 where
-  pub join : (m : Member) (c : List ℕ) → owner_of workers c ≡ s.desk.me → IsLeavingRule workers (onto (weave s.desk.me next (join_events m c row s) []) h)
-  pub part : (m : Member) (c : List ℕ) → owner_of workers c ≡ s.desk.me → IsLeavingRule workers (onto (weave s.desk.me next (part_events m c row s) []) h)
-  pub info : (from r : ℕ) (c : List ℕ) → owner_of workers c ≡ s.desk.me → IsLeavingRule workers (onto (weave s.desk.me next (touch_events_of c row s) (info_alerts from r c row s)) h)
+  pub join : (m : Member) (c : List ℕ) → owner_of workers c ≡ s.desk.me
+      → IsLeavingRule workers (onto (weave s.desk.me next (join_events m c row s) []) h)
+  pub part : (m : Member) (c : List ℕ) → owner_of workers c ≡ s.desk.me
+      → IsLeavingRule workers (onto (weave s.desk.me next (part_events m c row s) []) h)
+  pub info : (from r : ℕ) (c : List ℕ) → owner_of workers c ≡ s.desk.me
+      → IsLeavingRule workers (onto (weave s.desk.me next (touch_events_of c row s) (info_alerts from r c row s)) h)
   pub sweep : (c : List ℕ) → owner_of workers c ≡ s.desk.me → IsLeavingRule workers (onto (weave s.desk.me next (touch_events_of c row s) []) h)
-  pub look : (from number : ℕ) (c : List ℕ) (id : Id) → owner_of workers c ≡ s.desk.me → AreCounted h (entries_of (opened c s)) → IsLeavingRule workers (onto (weave s.desk.me next (look_events from number c id row s) (look_alerts from number c id row s)) h)
+  pub look : (from number : ℕ) (c : List ℕ) (id : Id) → owner_of workers c ≡ s.desk.me → AreCounted h (entries_of (opened c s))
+      → IsLeavingRule workers (onto (weave s.desk.me next (look_events from number c id row s) (look_alerts from number c id row s)) h)
   pub delete : (c : List ℕ) → owner_of workers c ≡ s.desk.me → IsLeavingRule workers (removed_onto next c ByDeletion h s)
-  pub remove_empty : (c : List ℕ) (cause : RemovedCause) → owner_of workers c ≡ s.desk.me → entries_of (opened c s) ≡ [] → IsLeavingRule workers (removed_onto next c cause h s)
+  pub remove_empty : (c : List ℕ) (cause : RemovedCause) → owner_of workers c ≡ s.desk.me → entries_of (opened c s) ≡ []
+      → IsLeavingRule workers (removed_onto next c cause h s)
   pub polled : (answers : List PollAnswer) → IsLeavingRule workers (onto (weave s.desk.me next (polled_events answers s) []) h)
 
 abbrev pub OthersLeave : Type 0
-OthersLeave = (me workers slots first : ℕ) (next : ℕ → ℕ) (row : List (Slot Message)) (h : List Event) (s : OwnerAt) → Stands me workers slots first row h s → IsLeavingRule workers h → StepsLeave workers next row h s
+OthersLeave = (me workers slots first : ℕ) (next : ℕ → ℕ) (row : List (Slot Message)) (h : List Event) (s : OwnerAt)
+    → Stands me workers slots first row h s → IsLeavingRule workers h → StepsLeave workers next row h s
 
 abbrev pub PublishLeaves : Type 0
 PublishLeaves = (me workers slots first : ℕ) (next : ℕ → ℕ) (from : ℕ) (o : Order) (polls : Polls) (row : List (Slot Message)) (h : List Event) (s : OwnerAt) → owner_of workers o.chan ≡ s.desk.me → Stands me workers slots first row h s → IsLeavingRule workers h

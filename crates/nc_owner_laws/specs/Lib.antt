@@ -1,6 +1,6 @@
 pub mod Used
 pub mod Kept
-pub mod Fits
+pub mod OwnerFits
 pub mod Keeping
 pub mod OwnerTold
 pub mod Telling

@@ -1,8 +1,7 @@
 -- What its own history tells of an owner, read event by event. The newest event stands first.
-use Rattle.std.specs.Prelude.{◌≡◌, ℕ, ◌+◌, ◌-◌, true, false, not, max, List, [], ◌∷◌, Option, None, Some, if◌then◌else◌, ◌==◌, map, filter, unwrap_or}
+use Rattle.std.specs.Prelude.{◌≡◌, ℕ, ◌+◌, ◌-◌, true, false, not, max, List, [], ◌∷◌, Option, None, Some, if◌then◌else◌, ◌==◌, map, filter, unwrap_or, bytes_eq}
 use Rattle.std.specs.Option.{option_map}
 use Rattle.nc_types.specs.Id.{Id, id_eq}
-use Rattle.nc_types.specs.Channel.{name_eq}
 use Rattle.nc_journal.specs.Stamp.{greater_id}
 use Rattle.nc_journal.specs.declared.event.Event.{Event}
 use Rattle.nc_journal.specs.declared.event.Event.TheVariants.{Clock, Raised, Stored, Left, Looked, Edged, Joined, Parted, Granted, Freed, Removed}
@@ -66,13 +65,13 @@ new_entry id slot expires = record { id = id; slot = slot; expires = expires; gr
 
 -- the channel of a name after an event, if it exists then
 abbrev pub channel_with : List ℕ → Id → Option Channel → Event → Option Channel
-channel_with c spent o (Stored w name id slot len exp kept members from r ct body) = if name_eq name c then Some (kept_channel kept (new_entry id slot exp) (unwrap_or o (made spent))) else o
-channel_with c spent o (Left w name id slot cause) = if name_eq name c then option_map (left_channel id) o else o
-channel_with c spent o (Looked w q from number name after floor past) = if name_eq name c then Some (with_look from past (unwrap_or o (made spent))) else o
-channel_with c spent o (Joined w name from k) = if name_eq name c then Some (joined_channel (record { from = from; k = k }) (unwrap_or o (made spent))) else o
-channel_with c spent o (Parted w name from k) = if name_eq name c then option_map (parted_channel (record { from = from; k = k })) o else o
+channel_with c spent o (Stored w name id slot len exp kept members from r ct body) = if bytes_eq name c then Some (kept_channel kept (new_entry id slot exp) (unwrap_or o (made spent))) else o
+channel_with c spent o (Left w name id slot cause) = if bytes_eq name c then option_map (left_channel id) o else o
+channel_with c spent o (Looked w q from number name after floor past) = if bytes_eq name c then Some (with_look from past (unwrap_or o (made spent))) else o
+channel_with c spent o (Joined w name from k) = if bytes_eq name c then Some (joined_channel (record { from = from; k = k }) (unwrap_or o (made spent))) else o
+channel_with c spent o (Parted w name from k) = if bytes_eq name c then option_map (parted_channel (record { from = from; k = k })) o else o
 channel_with c spent o (Granted w g slot to) = option_map (with_grants slot) o
-channel_with c spent o (Removed w name last cause) = if name_eq name c then None else o
+channel_with c spent o (Removed w name last cause) = if bytes_eq name c then None else o
 channel_with c spent o e = o
 
 -- ---- the whole
@@ -87,6 +86,6 @@ channel_of first c [] = None
 channel_of first c (e ∷ h) = channel_with c (desk_of first h).spent (channel_of first c h) e
 
 -- a history that began with a desk and no channel tells this owner
-pub record Tells (first : Desk) (h : List Event) (s : OwnerAt) : Type 0 where
+pub record HistoryTells (first : Desk) (h : List Event) (s : OwnerAt) : Type 0 where
   pub desk : s.desk ≡ desk_of first h
   pub channels : (c : List ℕ) → found c s ≡ channel_of first c h

@@ -42,4 +42,5 @@ ReapKeeps = (me workers slots first : ℕ) (next : ℕ → ℕ) (exact : Bool) (
 
 -- and no slot has more holds than it can have after it, where their numbers are told
 abbrev pub ReapHoldsFit : Type 0
-ReapHoldsFit = (counts : List ℕ) (answers : List PollAnswer) (row new_row : List (Slot Message)) (steps : List Step) (s new : OwnerAt) → IsReaped true counts answers row s steps new_row new → HoldsFit row counts → HoldsFit new_row counts
+ReapHoldsFit = (counts : List ℕ) (answers : List PollAnswer) (row new_row : List (Slot Message)) (steps : List Step) (s new : OwnerAt)
+    → IsReaped true counts answers row s steps new_row new → HoldsFit row counts → HoldsFit new_row counts

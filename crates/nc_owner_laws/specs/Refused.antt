@@ -29,7 +29,8 @@ RefusesUnretired = (retired : List ℕ) (w slot : ℕ) → has_number slot retir
 
 -- a poll shows a slot held that can't be held
 abbrev pub RefusesUnheldAsHeld : Type 0
-RefusesUnheldAsHeld = (row : List (Slot Message)) (slot : ℕ) → most_holds (slot_at row slot) ≡ 0 → AnswersFit row (record { slot = slot; held = true } ∷ []) → ⊥
+RefusesUnheldAsHeld = (row : List (Slot Message)) (slot : ℕ) → most_holds (slot_at row slot) ≡ 0
+    → AnswersFit row (record { slot = slot; held = true } ∷ []) → ⊥
 
 -- a message is stored in a slot that was used
 abbrev pub RefusesUsedSlot : Type 0

@@ -50,7 +50,8 @@ removal_onto v next c last cause lefts alerts h = onto (weave v next (lefts ++ R
 
 abbrev pub RemovalWakes : Type 0
 RemovalWakes = (h : List Event) (v : ℕ) (next : ℕ → ℕ) (c : List ℕ) (last : Id) (cause : RemovedCause) (lefts : List Event) (alerts : List OutLine)
-    → AllByRecursion IsLeft lefts → AllByRecursion (λ a. IsOfRemoval c a.line) alerts → TellsMarked c h alerts → Wakes h → WakesAll c (removal_onto v next c last cause lefts alerts h)
+    → AllByRecursion IsLeft lefts → AllByRecursion (λ a. IsOfRemoval c a.line) alerts → TellsMarked c h alerts → Wakes h
+    → WakesAll c (removal_onto v next c last cause lefts alerts h)
 
 -- where a look still waits after a removal, at another channel, no message is past its id
 abbrev pub RemovalPast : Type 0

@@ -31,12 +31,14 @@ RemoveKeeps = (me workers slots first : ℕ) (next : ℕ → ℕ) (c : List ℕ)
 
 -- and when a deletion was done, of a channel that is there or isn't
 abbrev pub DeleteKeeps : Type 0
-DeleteKeeps = (me workers slots first from r : ℕ) (next : ℕ → ℕ) (c : List ℕ) (row : List (Slot Message)) (h : List Event) (s : OwnerAt) → owner_of workers c ≡ me → Keeps me workers slots first row h s
+DeleteKeeps = (me workers slots first from r : ℕ) (next : ℕ → ℕ) (c : List ℕ) (row : List (Slot Message)) (h : List Event) (s : OwnerAt)
+    → owner_of workers c ≡ me → Keeps me workers slots first row h s
     → Keeps me workers slots first (delete_row c row s) (onto (weave s.desk.me next (delete_events c row s) (delete_alerts from r c row s)) h) (delete_after c row s)
 
 -- and when a channel was swept
 abbrev pub SweepKeeps : Type 0
-SweepKeeps = (me workers slots first : ℕ) (next : ℕ → ℕ) (c : List ℕ) (row : List (Slot Message)) (h : List Event) (s : OwnerAt) → owner_of workers c ≡ me → Keeps me workers slots first row h s
+SweepKeeps = (me workers slots first : ℕ) (next : ℕ → ℕ) (c : List ℕ) (row : List (Slot Message)) (h : List Event) (s : OwnerAt)
+    → owner_of workers c ≡ me → Keeps me workers slots first row h s
     → Keeps me workers slots first (sweep_row c row s) (onto (weave s.desk.me next (sweep_events c row s) (sweep_alerts c row s)) h) (sweep_after c row s)
 
 -- whether a worker's subscriber of a number is among those that alerts tell gone
@@ -50,8 +52,10 @@ is_told_member m (a ∷ alerts) = ((a.to == m.from) && names_gone m.k a.line) ||
 
 -- the members of a channel that is removed are told gone, and nobody else is
 abbrev pub MembersTold : Type 0
-MembersTold = (me workers slots first : ℕ) (c : List ℕ) (m : Member) (row : List (Slot Message)) (h : List Event) (s : OwnerAt) → Stands me workers slots first row h s → is_told_member m (removal_alerts c s) ≡ is_member c m h
+MembersTold = (me workers slots first : ℕ) (c : List ℕ) (m : Member) (row : List (Slot Message)) (h : List Event) (s : OwnerAt)
+    → Stands me workers slots first row h s → is_told_member m (removal_alerts c s) ≡ is_member c m h
 
 -- and whoever is told is a worker that is there, where those are that the channel keeps
 abbrev pub ToldAreThere : Type 0
-ToldAreThere = (workers : ℕ) (c : List ℕ) (s : OwnerAt) → AllByRecursion (λ w. w < workers) (opened c s).marks → AllByRecursion (λ m. m.from < workers) (opened c s).members → AllByRecursion (λ a. a.to < workers) (removal_alerts c s)
+ToldAreThere = (workers : ℕ) (c : List ℕ) (s : OwnerAt) → AllByRecursion (λ w. w < workers) (opened c s).marks
+    → AllByRecursion (λ m. m.from < workers) (opened c s).members → AllByRecursion (λ a. a.to < workers) (removal_alerts c s)

@@ -32,13 +32,17 @@ pub record StepsKeepSlots (slots : ℕ) (next : ℕ → ℕ) (row : List (Slot M
   pub part : (m : Member) (c : List ℕ) → Along (OwnersSlots slots) (onto (weave s.desk.me next (part_events m c row s) []) h)
   pub info : (from r : ℕ) (c : List ℕ) → Along (OwnersSlots slots) (onto (weave s.desk.me next (touch_events_of c row s) (info_alerts from r c row s)) h)
   pub sweep : (c : List ℕ) → Along (OwnersSlots slots) (onto (weave s.desk.me next (touch_events_of c row s) []) h)
-  pub look : (from number : ℕ) (c : List ℕ) (id : Id) → Along (OwnersSlots slots) (onto (weave s.desk.me next (look_events from number c id row s) (look_alerts from number c id row s)) h)
+  pub look : (from number : ℕ) (c : List ℕ) (id : Id)
+      → Along (OwnersSlots slots) (onto (weave s.desk.me next (look_events from number c id row s) (look_alerts from number c id row s)) h)
   pub remove : (c : List ℕ) (cause : RemovedCause) → Along (OwnersSlots slots) (removed_onto next c cause h s)
-  pub polled : (answers : List PollAnswer) → map slot_of answers ≡ s.desk.retired → Along (OwnersSlots slots) (onto (weave s.desk.me next (polled_events answers s) []) h)
+  pub polled : (answers : List PollAnswer) → map slot_of answers ≡ s.desk.retired
+      → Along (OwnersSlots slots) (onto (weave s.desk.me next (polled_events answers s) []) h)
 
 abbrev pub OthersKeepSlots : Type 0
-OthersKeepSlots = (me workers slots first : ℕ) (next : ℕ → ℕ) (row : List (Slot Message)) (h : List Event) (s : OwnerAt) → Stands me workers slots first row h s → AreStaged row h → Along (OwnersSlots slots) h → StepsKeepSlots slots next row h s
+OthersKeepSlots = (me workers slots first : ℕ) (next : ℕ → ℕ) (row : List (Slot Message)) (h : List Event) (s : OwnerAt)
+    → Stands me workers slots first row h s → AreStaged row h → Along (OwnersSlots slots) h → StepsKeepSlots slots next row h s
 
 abbrev pub PublishKeepsSlots : Type 0
 PublishKeepsSlots = (me workers slots first : ℕ) (next : ℕ → ℕ) (exact : Bool) (counts : List ℕ) (from : ℕ) (o : Order) (polls : Polls) (row : List (Slot Message)) (h : List Event) (s : OwnerAt) → PublishPolls exact counts o row s polls
-    → Stands me workers slots first row h s → AreStaged row h → Along (OwnersSlots slots) h → Along (OwnersSlots slots) (onto (weave s.desk.me next (publish_events from o polls row s) (publish_alerts from o polls row s)) h)
+    → Stands me workers slots first row h s → AreStaged row h → Along (OwnersSlots slots) h
+    → Along (OwnersSlots slots) (onto (weave s.desk.me next (publish_events from o polls row s) (publish_alerts from o polls row s)) h)

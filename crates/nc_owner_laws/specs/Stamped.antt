@@ -14,17 +14,18 @@ use Rattle.nc_owner.specs.State.{OwnerAt}
 use Rattle.nc_owner.specs.Publish.{Polls, publish_events}
 use Rattle.nc_owner.specs.Look.{look_events}
 use Rattle.nc_owner.specs.OtherSteps.{touch_events_of, join_events, part_events, polled_events}
-use Rattle.nc_owner_laws.specs.OwnerTold.{Tells}
+use Rattle.nc_owner_laws.specs.OwnerTold.{HistoryTells}
 use Rattle.nc_owner_laws.specs.Filters.{new_desk}
 
 -- a local history of an owner of some workers, which tells it
 pub record IsHistoryOf (me workers slots first : ℕ) (h : List Event) (s : OwnerAt) : Type 0 where
   pub local : own me h ≡ h
-  pub tells : Tells (new_desk me workers slots first) h s
+  pub tells : HistoryTells (new_desk me workers slots first) h s
 
 -- the message that a publish stores has the stamp
 abbrev pub PublishStamped : Type 0
-PublishStamped = (me workers slots first from : ℕ) (h : List Event) (o : Order) (row : List (Slot Message)) (s : OwnerAt) (polls : Polls) → IsHistoryOf me workers slots first h s → owner_of workers o.chan ≡ me → IsStamped workers h
+PublishStamped = (me workers slots first from : ℕ) (h : List Event) (o : Order) (row : List (Slot Message)) (s : OwnerAt) (polls : Polls)
+    → IsHistoryOf me workers slots first h s → owner_of workers o.chan ≡ me → IsStamped workers h
     → IsStamped workers (onto (publish_events from o polls row s) h)
 
 -- the other steps store nothing
@@ -36,7 +37,8 @@ pub record StepsStamped (workers : ℕ) (h : List Event) (c : List ℕ) (row : L
   pub polled : (answers : List PollAnswer) → IsStamped workers (onto (polled_events answers s) h)
 
 abbrev pub OthersStamped : Type 0
-OthersStamped = (workers : ℕ) (h : List Event) (c : List ℕ) (row : List (Slot Message)) (s : OwnerAt) → IsStamped workers h → StepsStamped workers h c row s
+OthersStamped = (workers : ℕ) (h : List Event) (c : List ℕ) (row : List (Slot Message)) (s : OwnerAt) → IsStamped workers h
+    → StepsStamped workers h c row s
 
 -- the floor never falls
 abbrev pub FloorLaw : Type 0

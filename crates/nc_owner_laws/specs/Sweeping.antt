@@ -44,7 +44,8 @@ pub record SweepsAre (workers me : ℕ) (steps : List Step) : Type 0 where
   pub alerts : AllAlerts (λ a. IsLoss workers me a.line) steps
 
 abbrev pub ReapsAre : Type 0
-ReapsAre = (workers me : ℕ) (row : List (Slot Message)) (s : OwnerAt) → s.desk.me ≡ me → OwnsChannels workers me s → SweepsAre workers me (swept_all row s).steps
+ReapsAre = (workers me : ℕ) (row : List (Slot Message)) (s : OwnerAt) → s.desk.me ≡ me → OwnsChannels workers me s
+    → SweepsAre workers me (swept_all row s).steps
 
 -- and in a deletion of a channel of its own
 pub record DeletionIs (workers me from r : ℕ) (events : List Event) (alerts : List OutLine) : Type 0 where
@@ -52,4 +53,5 @@ pub record DeletionIs (workers me from r : ℕ) (events : List Event) (alerts : 
   pub alerts_are : AllByRecursion (λ a. IsOfDeletion workers me from r a.to a.line) alerts
 
 abbrev pub DeletionsAre : Type 0
-DeletionsAre = (workers me from r : ℕ) (c : List ℕ) (row : List (Slot Message)) (s : OwnerAt) → s.desk.me ≡ me → owner_of workers c ≡ me → DeletionIs workers me from r (delete_events c row s) (delete_alerts from r c row s)
+DeletionsAre = (workers me from r : ℕ) (c : List ℕ) (row : List (Slot Message)) (s : OwnerAt) → s.desk.me ≡ me → owner_of workers c ≡ me
+    → DeletionIs workers me from r (delete_events c row s) (delete_alerts from r c row s)

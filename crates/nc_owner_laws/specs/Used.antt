@@ -26,4 +26,5 @@ pub record Agrees (buffered retired : ℕ → ℕ) (row : List (Slot Message)) :
 
 -- where fewer slots are used than there are, one is unused
 abbrev pub RoomLaw : Type 0
-RoomLaw = (buffered retired : List ℕ) (row : List (Slot Message)) → Agrees (λ s. times s buffered) (λ s. times s retired) row → length buffered + length retired < length row → is_some (lowest_unused row) ≡ true
+RoomLaw = (buffered retired : List ℕ) (row : List (Slot Message)) → Agrees (λ s. times s buffered) (λ s. times s retired) row
+    → length buffered + length retired < length row → is_some (lowest_unused row) ≡ true

@@ -1,8 +1,7 @@
 -- What wakes a look that found nothing: at its owner, and among the alerts to its worker.
-use Rattle.std.specs.Prelude.{◌≡◌, ℕ, true, List, [], ◌∷◌, ◌++◌, None, if◌then◌else◌, ◌==◌, ◌&&◌}
+use Rattle.std.specs.Prelude.{◌≡◌, ℕ, true, List, [], ◌∷◌, ◌++◌, None, if◌then◌else◌, ◌==◌, ◌&&◌, bytes_eq}
 use Rattle.nc_types.specs.Id.{Id}
 use Rattle.nc_types.specs.Message.{Message}
-use Rattle.nc_types.specs.Channel.{name_eq}
 use Rattle.nc_journal.specs.History.{onto}
 use Rattle.nc_journal.specs.declared.event.Event.{Event}
 use Rattle.nc_journal.specs.declared.event.Event.TheVariants.{Stored, Looked, Removed, Made}
@@ -16,7 +15,7 @@ use Rattle.nc_owner.specs.State.{OwnerAt}
 use Rattle.nc_owner.specs.Publish.{Polls, publish_events, publish_alerts}
 use Rattle.nc_owner.specs.Look.{look_events, look_alerts}
 use Rattle.nc_owner.specs.OtherSteps.{touch_events_of, join_events, part_events, info_alerts, polled_events}
-use Rattle.nc_owner_laws.specs.OwnerTold.{Tells}
+use Rattle.nc_owner_laws.specs.OwnerTold.{HistoryTells}
 use Rattle.nc_owner_laws.specs.Filters.{new_desk, is_marked}
 use Rattle.nc_owner_laws.specs.Weave.{weave}
 
@@ -37,16 +36,16 @@ woken by ByGone = ByGone
 -- where look q of worker w at a channel stands by what the owner did, the newest event first
 abbrev pub wake : ℕ → List ℕ → ℕ → List Event → Wake
 wake w c q [] = NotYet
-wake w c q (Looked v p u number d after floor None ∷ h) = if (p == q) && ((u == w) && name_eq d c) then Waiting else wake w c q h
-wake w c q (Stored v d id slot len exp kept members from r ct body ∷ h) = if name_eq d c then woken (ByNotice id) (wake w c q h) else wake w c q h
-wake w c q (Removed v d last cause ∷ h) = if name_eq d c then woken ByGone (wake w c q h) else wake w c q h
+wake w c q (Looked v p u number d after floor None ∷ h) = if (p == q) && ((u == w) && bytes_eq d c) then Waiting else wake w c q h
+wake w c q (Stored v d id slot len exp kept members from r ct body ∷ h) = if bytes_eq d c then woken (ByNotice id) (wake w c q h) else wake w c q h
+wake w c q (Removed v d last cause ∷ h) = if bytes_eq d c then woken ByGone (wake w c q h) else wake w c q h
 wake w c q (e ∷ h) = wake w c q h
 
 -- and by the alerts to the worker
 abbrev pub hear : List ℕ → ℕ → Wake → AlertLine → Wake
 hear c q s (lines.LookAnswer number p floor None g slot) = if p == q then Waiting else s
-hear c q s (lines.Notice d id g slot) = if name_eq d c then woken (ByNotice id) s else s
-hear c q s (lines.Gone d subs) = if name_eq d c then woken ByGone s else s
+hear c q s (lines.Notice d id g slot) = if bytes_eq d c then woken (ByNotice id) s else s
+hear c q s (lines.Gone d subs) = if bytes_eq d c then woken ByGone s else s
 hear c q s alert = s
 
 -- the first alert first
@@ -63,7 +62,7 @@ made_to w (e ∷ h) = made_to w h
 -- look q, where it was made, was made at this channel
 abbrev pub IsOnlyAt : List ℕ → ℕ → List Event → Type 0
 IsOnlyAt c q [] = Unit {0}
-IsOnlyAt c q (Looked v p u number d after floor found ∷ h) = (p ≡ q → name_eq d c ≡ true) × IsOnlyAt c q h
+IsOnlyAt c q (Looked v p u number d after floor found ∷ h) = (p ≡ q → bytes_eq d c ≡ true) × IsOnlyAt c q h
 IsOnlyAt c q (e ∷ h) = IsOnlyAt c q h
 
 -- between steps, what a worker heard of its look is what happened to it, and who waits is marked
@@ -79,7 +78,7 @@ LookWakes = (h : List Event) (next : ℕ → ℕ) (from number : ℕ) (c : List 
     → Wakes (onto (weave s.desk.me next (look_events from number c id row s) (look_alerts from number c id row s)) h)
 
 abbrev pub PublishWakes : Type 0
-PublishWakes = (me workers slots first : ℕ) (h : List Event) (next : ℕ → ℕ) (from : ℕ) (o : Order) (row : List (Slot Message)) (s : OwnerAt) (polls : Polls) → Tells (new_desk me workers slots first) h s → Wakes h
+PublishWakes = (me workers slots first : ℕ) (h : List Event) (next : ℕ → ℕ) (from : ℕ) (o : Order) (row : List (Slot Message)) (s : OwnerAt) (polls : Polls) → HistoryTells (new_desk me workers slots first) h s → Wakes h
     → Wakes (onto (weave s.desk.me next (publish_events from o polls row s) (publish_alerts from o polls row s)) h)
 
 -- the other steps wake nobody

@@ -18,7 +18,8 @@ fn sweep_all<P: Slots>(
     steps: &mut List<Done<P::Hold>>,
 ) -> Result<(), NoMemory>
     ensures me { OnOk result (owner.new.desk.me ≡ owner.old.desk.me) }
-    ensures all { OnOk result (state owner.new (P.slots pool.new owner.old.desk.me) (steps_of steps.new) ≡ fold swept (state owner.old (P.slots pool.old owner.old.desk.me) (steps_of steps.old)) names.now) }
+    ensures all { OnOk result (state owner.new (P.slots pool.new owner.old.desk.me) (steps_of steps.new)
+        ≡ fold swept (state owner.old (P.slots pool.old owner.old.desk.me) (steps_of steps.old)) names.now) }
     ensures others { OnOk result (SameOthers owner.old.desk.me (P.slots pool.old) (P.slots pool.new)) }
     ensures holds { OnOk result (P.exact ≡ true → P.holds pool.new ≡ P.holds pool.old) }
 {

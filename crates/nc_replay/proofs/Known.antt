@@ -9,7 +9,7 @@ use Rattle.nc_world_follows.specs.Fitting.{AreFit}
 use Rattle.nc_world_follows.specs.Laws.{FitLinesReach}
 use Rattle.nc_world_follows.proofs.Fitting.{line_can}
 use Rattle.nc_script.specs.declared.line.Line.{Line as Said}
-use Rattle.nc_cluster.specs.Line.{pure_line, CanMake}
+use Rattle.nc_cluster.specs.PureLine.{pure_line, CanMake}
 use Rattle.nc_cluster.specs.Comers.{subscribed, noted, broken_rule}
 use Rattle.nc_cluster.specs.Stands.{ClusterAt, Stands}
 use Rattle.nc_cluster.proofs.Joining.{is_line}

@@ -17,7 +17,7 @@ use Rattle.nc_world_follows.specs.Fitting.{AreFit}
 use Rattle.nc_world_worn.specs.Counters.{with_moves}
 use Rattle.nc_world_worn.specs.Laws.{WornIsTold}
 use Rattle.nc_world_lawful.specs.Lawful.{JournalsAreLawful}
-use Rattle.nc_cluster.specs.Line.{pure_line}
+use Rattle.nc_cluster.specs.PureLine.{pure_line}
 use Rattle.nc_cluster.specs.Stands.{ClusterAt, Stands}
 use Rattle.nc_replay.specs.declared.fault.Fault.{Fault}
 use Rattle.nc_replay.specs.Script.{lines_of}

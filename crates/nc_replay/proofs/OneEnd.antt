@@ -13,7 +13,7 @@ use Rattle.nc_script.proofs.Sure.{next_sure}
 use Rattle.nc_worker_state.specs.Setup.{Setup, setup_of}
 use Rattle.nc_world.specs.Lines.{Line, lines_world}
 use Rattle.nc_turns.specs.Worn.{before_worn_in}
-use Rattle.nc_cluster.specs.Line.{pure_line}
+use Rattle.nc_cluster.specs.PureLine.{pure_line}
 use Rattle.nc_replay.specs.declared.fault.Fault.{Fault}
 use Rattle.nc_replay.specs.Script.{rule_line, text_of_lines, AreParts, IsConfigured}
 use Rattle.nc_replay.specs.Lines.{new_number, line_after, Reads}

@@ -12,7 +12,7 @@ use Rattle.nc_script.specs.Line.{line}
 use Rattle.nc_script.specs.Script.{IsPoll, HasNumberAt, Keeps, FitsNames}
 use Rattle.nc_spool.specs.Arrive.{FitsList}
 use Rattle.nc_world.specs.Lines.{Line}
-use Rattle.nc_cluster.specs.Line.{pure_line, CanMake}
+use Rattle.nc_cluster.specs.PureLine.{pure_line, CanMake}
 use Rattle.nc_cluster.specs.Comers.{broken_rule}
 use Rattle.nc_replay.specs.Lines.{is_used, IsNew, line_after}
 

@@ -7,7 +7,7 @@ use Rattle.nc_script.specs.Judge.{Judge, next}
 use Rattle.nc_script.specs.Line.{line}
 use Rattle.nc_script.specs.Script.{HasNumberAt}
 use Rattle.nc_world.specs.Lines.{Line, Poll}
-use Rattle.nc_cluster.specs.Line.{pure_line}
+use Rattle.nc_cluster.specs.PureLine.{pure_line}
 
 -- a line is a poll of this number at this worker
 abbrev pub polls : ℕ → ℕ → Line → Bool

@@ -10,7 +10,7 @@ use Rattle.nc_turns.specs.Worn.{before_worn_in}
 use Rattle.nc_world_follows.specs.Fitting.{AreFit}
 use Rattle.nc_world_worn.specs.Counters.{IsWornIn, with_moves}
 use Rattle.nc_world_lawful.specs.Lawful.{IsLawfulJournal}
-use Rattle.nc_cluster.specs.Line.{pure_line}
+use Rattle.nc_cluster.specs.PureLine.{pure_line}
 use Rattle.nc_replay.specs.declared.fault.Fault.{Fault}
 use Rattle.nc_replay.specs.declared.making.Ending.{Ending}
 use Rattle.nc_replay.specs.declared.making.Ending.TheVariants.{All, Faulty, Worn as WornOut}

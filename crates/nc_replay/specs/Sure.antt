@@ -16,7 +16,8 @@ HasOneFront = (script : List ℕ) (before made other rest : List (List ℕ)) →
 
 -- no script is both configured and refused
 abbrev pub IsNeverBoth : Type 0
-IsNeverBoth = (script : List ℕ) (before made : List (List ℕ)) (config : ConfigAt) (rule at : ℕ) → IsConfigured script before made config → IsMisconfigured script rule at → ⊥
+IsNeverBoth = (script : List ℕ) (before made : List (List ℕ)) (config : ConfigAt) (rule at : ℕ) → IsConfigured script before made config
+    → IsMisconfigured script rule at → ⊥
 
 -- behind other lines, a line says one thing or breaks one rule at one place
 abbrev pub IsLineSure : Type 0
@@ -24,7 +25,8 @@ IsLineSure = (workers : ℕ) (lines : List Line) (text : List ℕ) → IsSure (l
 
 -- a script whose lines are all made has no line that breaks a rule
 abbrev pub NeverFails : Type 0
-NeverFails = (first second : ℕ) (script : List ℕ) (h other : List Event) (fault : Fault) → Passes first script h → Fails second script other fault → ⊥
+NeverFails = (first second : ℕ) (script : List ℕ) (h other : List Event) (fault : Fault) → Passes first script h → Fails second script other fault
+    → ⊥
 
 -- nor does it come to a worn worker
 abbrev pub NeverWears : Type 0
@@ -36,4 +38,5 @@ FailsOrWears = (first : ℕ) (script : List ℕ) (h other : List Event) (fault :
 
 -- one line of a script breaks a rule first, and one rule at one place
 abbrev pub HasOneFault : Type 0
-HasOneFault = (first second : ℕ) (script : List ℕ) (h other : List Event) (fault third : Fault) → Fails first script h fault → Fails second script other third → fault ≡ third
+HasOneFault = (first second : ℕ) (script : List ℕ) (h other : List Event) (fault third : Fault) → Fails first script h fault
+    → Fails second script other third → fault ≡ third

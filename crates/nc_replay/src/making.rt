@@ -6,7 +6,7 @@ ghost use Rattle.nc_journal.specs.Text.{lines_text};
 ghost use Rattle.nc_script.specs.Judge.{Judged};
 ghost use Rattle.nc_worker_state.specs.Setup.{Setup, setup_of};
 ghost use Rattle.nc_world.specs.Lines.{Line as MadeLine};
-ghost use Rattle.nc_cluster.specs.Line.{pure_line, CanMake};
+ghost use Rattle.nc_cluster.specs.PureLine.{pure_line, CanMake};
 ghost use Rattle.nc_cluster.specs.Cluster.{IsCluster};
 ghost use Rattle.nc_cluster.specs.Comers.{noted, broken_rule};
 ghost use Rattle.nc_cluster.specs.Stands.{Stands, seen};
@@ -85,7 +85,8 @@ fn admit<W: Hand>(
     workers: u8,
     text: &[u8],
 ) -> Result<Line, LineFault>
-    ensures judged { (setup : Setup) (lines : List MadeLine) → Stands setup lines (seen W.worker cluster.now) → Judged (line_after workers lines text.now) result }
+    ensures judged { (setup : Setup) (lines : List MadeLine) → Stands setup lines (seen W.worker cluster.now)
+        → Judged (line_after workers lines text.now) result }
     ensures fits { IfOk result (λ line. broken_rule (noted cluster.now.subscribers) (pure_line line) ≡ None) }
     ensures can { IfOk result (CanMake workers) }
 {

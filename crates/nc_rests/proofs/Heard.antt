@@ -1,9 +1,9 @@
 -- What a worker heard of a look that is answered once.
 use Rattle.std.proofs.Common.{◌≡◌, inl, inr, ℕ, zero, suc, ◌+◌, ◌≤◌, Bool, true, false, cond, List, [], ◌∷◌, ◌++◌, None, Some, refl, sym, ap, ◌∙◌, arith}
-use Rattle.std.specs.Prelude.{◌==◌}
+use Rattle.std.specs.Prelude.{◌==◌, bytes_eq}
 use Rattle.std.proofs.lemmas.Bool.{eqb-true}
 use Rattle.nc_types.specs.Id.{Id}
-use Rattle.nc_types.specs.Channel.{owner_of, name_eq}
+use Rattle.nc_types.specs.Channel.{owner_of}
 use Rattle.nc_journal.specs.declared.event.Event.{Event}
 use Rattle.nc_journal.specs.declared.alert.AlertLine.{AlertLine}
 use Rattle.nc_journal.specs.declared.alert.AlertLine.TheVariants as lines
@@ -28,12 +28,12 @@ unanswered c q (lines.LookAnswer number p floor None g slot ∷ xs) none = by (p
     by true is rest = let one : bit (p == q) ≡ 1 = ap bit is in absurd (omega (arith, none, one))
     by false is rest = rest
 unanswered c q (lines.LookAnswer number p floor (Some id) g slot ∷ xs) none = unanswered c q xs (omega (arith, none))
-unanswered c q (lines.Notice d id g slot ∷ xs) none = by (name_eq d c) (unanswered c q xs none)
+unanswered c q (lines.Notice d id g slot ∷ xs) none = by (bytes_eq d c) (unanswered c q xs none)
   where
     by : (b : Bool) → hears c q NotYet xs ≡ NotYet → hears c q (cond b (woken (ByNotice id) NotYet) NotYet) xs ≡ NotYet
     by true rest = rest
     by false rest = rest
-unanswered c q (lines.Gone d subs ∷ xs) none = by (name_eq d c) (unanswered c q xs none)
+unanswered c q (lines.Gone d subs ∷ xs) none = by (bytes_eq d c) (unanswered c q xs none)
   where
     by : (b : Bool) → hears c q NotYet xs ≡ NotYet → hears c q (cond b (woken ByGone NotYet) NotYet) xs ≡ NotYet
     by true rest = rest
@@ -49,12 +49,12 @@ stays_woken c q id (lines.LookAnswer number p floor None g slot ∷ xs) none = b
     by true is rest = let one : bit (p == q) ≡ 1 = ap bit is in absurd (omega (arith, none, one))
     by false is rest = rest
 stays_woken c q id (lines.LookAnswer number p floor (Some m) g slot ∷ xs) none = stays_woken c q id xs (omega (arith, none))
-stays_woken c q id (lines.Notice d m g slot ∷ xs) none = by (name_eq d c) (stays_woken c q id xs none)
+stays_woken c q id (lines.Notice d m g slot ∷ xs) none = by (bytes_eq d c) (stays_woken c q id xs none)
   where
     by : (b : Bool) → hears c q (ByNotice id) xs ≡ ByNotice id → hears c q (cond b (woken (ByNotice m) (ByNotice id)) (ByNotice id)) xs ≡ ByNotice id
     by true rest = rest
     by false rest = rest
-stays_woken c q id (lines.Gone d subs ∷ xs) none = by (name_eq d c) (stays_woken c q id xs none)
+stays_woken c q id (lines.Gone d subs ∷ xs) none = by (bytes_eq d c) (stays_woken c q id xs none)
   where
     by : (b : Bool) → hears c q (ByNotice id) xs ≡ ByNotice id → hears c q (cond b (woken ByGone (ByNotice id)) (ByNotice id)) xs ≡ ByNotice id
     by true rest = rest
@@ -77,12 +77,12 @@ none_answered c q (lines.LookAnswer number p floor None g slot ∷ xs) is = by (
     by true same rest e = inl (eqb-true p q same, refl)
     by false other rest e = inr (rest e)
 none_answered c q (lines.LookAnswer number p floor (Some id) g slot ∷ xs) is = inr (none_answered c q xs is)
-none_answered c q (lines.Notice d id g slot ∷ xs) is = by (name_eq d c) (none_answered c q xs) is
+none_answered c q (lines.Notice d id g slot ∷ xs) is = by (bytes_eq d c) (none_answered c q xs) is
   where
     by : (b : Bool) → (hears c q NotYet xs ≡ Waiting → HasAnswer q None xs) → hears c q (cond b (woken (ByNotice id) NotYet) NotYet) xs ≡ Waiting → HasAnswer q None xs
     by true rest e = rest e
     by false rest e = rest e
-none_answered c q (lines.Gone d subs ∷ xs) is = by (name_eq d c) (none_answered c q xs) is
+none_answered c q (lines.Gone d subs ∷ xs) is = by (bytes_eq d c) (none_answered c q xs) is
   where
     by : (b : Bool) → (hears c q NotYet xs ≡ Waiting → HasAnswer q None xs) → hears c q (cond b (woken ByGone NotYet) NotYet) xs ≡ Waiting → HasAnswer q None xs
     by true rest e = rest e

@@ -1,14 +1,14 @@
 -- What stands in a local history stands in the whole one.
 use Rattle.std.proofs.Common.{◌≡◌, ℕ, Bool, true, false, cond, not, List, [], ◌∷◌, ◌++◌, filter, refl, sym, ap, ◌∙◌, true≢false}
-use Rattle.std.specs.Prelude.{◌||◌, ◌&&◌, ◌==◌}
+use Rattle.std.specs.Prelude.{◌||◌, ◌&&◌, ◌==◌, bytes_eq}
 use Rattle.std.specs.List.{AllByRecursion}
 use Rattle.std.specs.Cmp.Lexicographic.{same_text}
 use Rattle.std.proofs.lemmas.Bool.{eq-eqb, cond_both}
 use Rattle.std.proofs.lemmas.List.Elements.{filter_agree}
 use Rattle.nc_types.specs.Id.{Id, id_eq}
-use Rattle.nc_types.specs.Channel.{owner_of, name_eq}
+use Rattle.nc_types.specs.Channel.{owner_of}
 use Rattle.nc_journal.specs.History.{own, is_by}
-use Rattle.nc_journal.specs.Message.{published, is_gone, buffer, message_of}
+use Rattle.nc_journal.specs.Message.{published, is_gone, buffer, stored_message}
 use Rattle.nc_journal.specs.declared.event.Event.{Event}
 use Rattle.nc_journal.specs.declared.event.Event.TheVariants.{Stored, Left}
 use Rattle.nc_rests.specs.Owners.{IsByOwner}
@@ -50,10 +50,10 @@ cut_of o (e ∷ h) x newer older is = cut_case o e h x newer older (is_by o e) r
 -- ---- messages stand in the local history of their channel's owner
 
 -- what another worker does is on another channel
-pub other_channel : (workers v : ℕ) (c d : List ℕ) → v ≡ owner_of workers d → (owner_of workers c == v) ≡ false → name_eq d c ≡ false
-other_channel workers v c d by other = go (name_eq d c) refl
+pub other_channel : (workers v : ℕ) (c d : List ℕ) → v ≡ owner_of workers d → (owner_of workers c == v) ≡ false → bytes_eq d c ≡ false
+other_channel workers v c d by other = go (bytes_eq d c) refl
   where
-    go : (b : Bool) → name_eq d c ≡ b → b ≡ false
+    go : (b : Bool) → bytes_eq d c ≡ b → b ≡ false
     go true same = absurd (true≢false (sym (eq-eqb (owner_of workers c) v (ap (owner_of workers) (sym (same_text d c (sym same))) ∙ sym by)) ∙ other))
     go false same = refl
 
@@ -62,9 +62,9 @@ published_own workers c [] by = refl
 published_own workers c (Stored v d id slot len exp kept members from r ct body ∷ h) by = go (owner_of workers c == v) refl (published_own workers c h by.1)
   where
     go : (b : Bool) → (owner_of workers c == v) ≡ b → published c (own (owner_of workers c) h) ≡ published c h
-        → published c (cond b (Stored v d id slot len exp kept members from r ct body ∷ own (owner_of workers c) h) (own (owner_of workers c) h)) ≡ cond (name_eq d c) (published c h ++ message_of id slot exp ct body ∷ []) (published c h)
-    go true is rest = ap (λ ms. cond (name_eq d c) (ms ++ message_of id slot exp ct body ∷ []) ms) rest
-    go false is rest = rest ∙ sym (ap (λ b. cond b (published c h ++ message_of id slot exp ct body ∷ []) (published c h)) (other_channel workers v c d by.0 is))
+        → published c (cond b (Stored v d id slot len exp kept members from r ct body ∷ own (owner_of workers c) h) (own (owner_of workers c) h)) ≡ cond (bytes_eq d c) (published c h ++ stored_message id slot exp ct body ∷ []) (published c h)
+    go true is rest = ap (λ ms. cond (bytes_eq d c) (ms ++ stored_message id slot exp ct body ∷ []) ms) rest
+    go false is rest = rest ∙ sym (ap (λ b. cond b (published c h ++ stored_message id slot exp ct body ∷ []) (published c h)) (other_channel workers v c d by.0 is))
 published_own workers c (e ∷ h) by =
     cond_both (is_by (owner_of workers c) e) (e ∷ own (owner_of workers c) h) (own (owner_of workers c) h) (λ l. published c l ≡ published c h) (λ _. published_own workers c h by.1) (λ _. published_own workers c h by.1)
 
@@ -77,14 +77,14 @@ gone_own workers c id [] by = refl
 gone_own workers c id (Stored v d m slot len exp kept members from r ct body ∷ h) by = go (owner_of workers c == v) refl (gone_own workers c id h by.1)
   where
     go : (b : Bool) → (owner_of workers c == v) ≡ b → is_gone c id (own (owner_of workers c) h) ≡ is_gone c id h
-        → is_gone c id (cond b (Stored v d m slot len exp kept members from r ct body ∷ own (owner_of workers c) h) (own (owner_of workers c) h)) ≡ ((not kept && (name_eq d c && id_eq m id)) || is_gone c id h)
-    go true is rest = ap (λ g. (not kept && (name_eq d c && id_eq m id)) || g) rest
-    go false is rest = rest ∙ sym (ap (λ b. b || is_gone c id h) (and_false (not kept) (name_eq d c && id_eq m id) (ap (λ b. b && id_eq m id) (other_channel workers v c d by.0 is))))
+        → is_gone c id (cond b (Stored v d m slot len exp kept members from r ct body ∷ own (owner_of workers c) h) (own (owner_of workers c) h)) ≡ ((not kept && (bytes_eq d c && id_eq m id)) || is_gone c id h)
+    go true is rest = ap (λ g. (not kept && (bytes_eq d c && id_eq m id)) || g) rest
+    go false is rest = rest ∙ sym (ap (λ b. b || is_gone c id h) (and_false (not kept) (bytes_eq d c && id_eq m id) (ap (λ b. b && id_eq m id) (other_channel workers v c d by.0 is))))
 gone_own workers c id (Left v d m slot cause ∷ h) by = go (owner_of workers c == v) refl (gone_own workers c id h by.1)
   where
     go : (b : Bool) → (owner_of workers c == v) ≡ b → is_gone c id (own (owner_of workers c) h) ≡ is_gone c id h
-        → is_gone c id (cond b (Left v d m slot cause ∷ own (owner_of workers c) h) (own (owner_of workers c) h)) ≡ ((name_eq d c && id_eq m id) || is_gone c id h)
-    go true is rest = ap (λ g. (name_eq d c && id_eq m id) || g) rest
+        → is_gone c id (cond b (Left v d m slot cause ∷ own (owner_of workers c) h) (own (owner_of workers c) h)) ≡ ((bytes_eq d c && id_eq m id) || is_gone c id h)
+    go true is rest = ap (λ g. (bytes_eq d c && id_eq m id) || g) rest
     go false is rest = rest ∙ sym (ap (λ b. (b && id_eq m id) || is_gone c id h) (other_channel workers v c d by.0 is))
 gone_own workers c id (e ∷ h) by =
     cond_both (is_by (owner_of workers c) e) (e ∷ own (owner_of workers c) h) (own (owner_of workers c) h) (λ l. is_gone c id l ≡ is_gone c id h) (λ _. gone_own workers c id h by.1) (λ _. gone_own workers c id h by.1)

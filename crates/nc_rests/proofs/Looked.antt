@@ -1,10 +1,9 @@
 -- Each look stands once in its owner's history, and waits or was woken.
 use Rattle.std.proofs.Common.{◌≡◌, ℕ, ◌+◌, ◌≤◌, Bool, true, false, cond, List, [], ◌∷◌, ◌++◌, None, Some, refl, sym, ap, ◌∙◌, arith, true≢false}
-use Rattle.std.specs.Prelude.{◌&&◌, ◌==◌}
+use Rattle.std.specs.Prelude.{◌&&◌, ◌==◌, bytes_eq}
 use Rattle.std.proofs.lemmas.Bool.{eq-eqb}
 use Rattle.std.proofs.lemmas.Cmp.{nat_list_eq_equiv}
 use Rattle.nc_types.specs.Id.{Id}
-use Rattle.nc_types.specs.Channel.{name_eq}
 use Rattle.nc_journal.specs.declared.event.Event.{Event}
 use Rattle.nc_journal.specs.declared.event.Event.TheVariants.{Stored, Looked, Edged, Removed}
 use Rattle.nc_owner_laws.specs.Drawn.{look_numbers}
@@ -49,7 +48,7 @@ look_once q (e ∷ s) (f ∷ r) x y t u a b same one =
 
 -- ---- a look that found nothing
 
-pub name_self : (c : List ℕ) → name_eq c c ≡ true
+pub name_self : (c : List ℕ) → bytes_eq c c ≡ true
 name_self c = nat_list_eq_equiv.refl c
 
 never : (b : Bool) (t : Wake) → (t ≡ NotYet → ⊥) → cond b Waiting t ≡ NotYet → ⊥
@@ -72,21 +71,21 @@ gone_apart e = cc
 -- a look that found nothing waits or was woken
 pub look_known : (w : ℕ) (c : List ℕ) (q : ℕ) (since : List Event) (v number : ℕ) (after : Id) (floor : ℕ) (seen : List Event) → wake w c q (since ++ Looked v q w number c after floor None ∷ seen) ≡ NotYet → ⊥
 look_known w c q [] v number after floor seen e =
-    let test : ((q == q) && ((w == w) && name_eq c c)) ≡ true = rw (eqb_self q, eqb_self w, name_self c) refl in
-    let there : cond ((q == q) && ((w == w) && name_eq c c)) Waiting (wake w c q seen) ≡ Waiting = ap (λ b. cond b Waiting (wake w c q seen)) test in
+    let test : ((q == q) && ((w == w) && bytes_eq c c)) ≡ true = rw (eqb_self q, eqb_self w, name_self c) refl in
+    let there : cond ((q == q) && ((w == w) && bytes_eq c c)) Waiting (wake w c q seen) ≡ Waiting = ap (λ b. cond b Waiting (wake w c q seen)) test in
     let apart : Waiting ≡ NotYet = sym there ∙ e in
     absurd cc
 look_known w c q (Stored u d id slot len exp kept members from r ct body ∷ since) v number after floor seen e =
-    never_woken (name_eq d c) (ByNotice id) (wake w c q (since ++ Looked v q w number c after floor None ∷ seen)) (notice_apart id) (look_known w c q since v number after floor seen) e
+    never_woken (bytes_eq d c) (ByNotice id) (wake w c q (since ++ Looked v q w number c after floor None ∷ seen)) (notice_apart id) (look_known w c q since v number after floor seen) e
 look_known w c q (Removed u d last cause ∷ since) v number after floor seen e =
-    never_woken (name_eq d c) ByGone (wake w c q (since ++ Looked v q w number c after floor None ∷ seen)) gone_apart (look_known w c q since v number after floor seen) e
+    never_woken (bytes_eq d c) ByGone (wake w c q (since ++ Looked v q w number c after floor None ∷ seen)) gone_apart (look_known w c q since v number after floor seen) e
 look_known w c q (Looked u p x n d a f None ∷ since) v number after floor seen e =
-    never ((p == q) && ((x == w) && name_eq d c)) (wake w c q (since ++ Looked v q w number c after floor None ∷ seen)) (look_known w c q since v number after floor seen) e
+    never ((p == q) && ((x == w) && bytes_eq d c)) (wake w c q (since ++ Looked v q w number c after floor None ∷ seen)) (look_known w c q since v number after floor seen) e
 look_known w c q (x ∷ since) v number after floor seen e = look_known w c q since v number after floor seen e
 
 past_here : (w : ℕ) (c : List ℕ) (q : ℕ) (v number : ℕ) (after : Id) (floor : ℕ) (seen : List Event) → look_past w c q (Looked v q w number c after floor None ∷ seen) ≡ Some after
 past_here w c q v number after floor seen =
-    let test : ((q == q) && ((w == w) && name_eq c c)) ≡ true = rw (eqb_self q, eqb_self w, name_self c) refl in
+    let test : ((q == q) && ((w == w) && bytes_eq c c)) ≡ true = rw (eqb_self q, eqb_self w, name_self c) refl in
     ap (λ b. cond b (Some after) (look_past w c q seen)) test
 
 other_number : (a b : Bool) → a ≡ false → (a && b) ≡ false
@@ -99,7 +98,7 @@ past_once w c q [] v number after floor seen one = past_here w c q v number afte
 past_once w c q (Looked u p x n d a f None ∷ since) v number after floor seen one = by (p == q) refl (past_once w c q since v number after floor seen)
   where
     by : (b : Bool) → (p == q) ≡ b → (times q (look_numbers (since ++ Looked v q w number c after floor None ∷ seen)) ≤ 1 → look_past w c q (since ++ Looked v q w number c after floor None ∷ seen) ≡ Some after)
-        → cond ((p == q) && ((x == w) && name_eq d c)) (Some a) (look_past w c q (since ++ Looked v q w number c after floor None ∷ seen)) ≡ Some after
+        → cond ((p == q) && ((x == w) && bytes_eq d c)) (Some a) (look_past w c q (since ++ Looked v q w number c after floor None ∷ seen)) ≡ Some after
     by true is rest = let here : bit (p == q) ≡ 1 = ap bit is in absurd (omega (arith, one, here, times_at q since (Looked v q w number c after floor None) seen refl))
-    by false is rest = ap (λ b. cond b (Some a) (look_past w c q (since ++ Looked v q w number c after floor None ∷ seen))) (other_number (p == q) ((x == w) && name_eq d c) is) ∙ rest (omega (arith, one))
+    by false is rest = ap (λ b. cond b (Some a) (look_past w c q (since ++ Looked v q w number c after floor None ∷ seen))) (other_number (p == q) ((x == w) && bytes_eq d c) is) ∙ rest (omega (arith, one))
 past_once w c q (x ∷ since) v number after floor seen one = past_once w c q since v number after floor seen (omega (arith, one, times_more q x (since ++ Looked v q w number c after floor None ∷ seen)))

@@ -1,14 +1,14 @@
 -- What an owner that stands for its local history tells and keeps.
 use Rattle.std.proofs.Common.{◌≡◌, ℕ, suc, ◌≤◌, Bool, true, false, cond, List, [], ◌∷◌, ◌++◌, length, refl, sym, ap, ◌∙◌, arith}
-use Rattle.std.specs.Prelude.{◌==◌}
+use Rattle.std.specs.Prelude.{◌==◌, bytes_eq}
 use Rattle.std.specs.List.{AllByRecursion}
 use Rattle.std.specs.Cmp.Lexicographic.{same_text}
 use Rattle.std.proofs.lemmas.Bool.{eqb-true}
 use Rattle.nc_types.specs.Id.{Id}
-use Rattle.nc_types.specs.Channel.{owner_of, name_eq}
+use Rattle.nc_types.specs.Channel.{owner_of}
 use Rattle.nc_journal.specs.History.{Along, own, is_by}
 use Rattle.nc_journal.specs.Stamp.{IsStamped}
-use Rattle.nc_journal.specs.Message.{published, message_of}
+use Rattle.nc_journal.specs.Message.{published, stored_message}
 use Rattle.nc_journal.specs.Sending.{HasId}
 use Rattle.nc_journal.specs.declared.event.Event.{Event}
 use Rattle.nc_journal.specs.declared.event.Event.TheVariants.{Stored, Left, Looked, Edged}
@@ -17,7 +17,7 @@ use Rattle.nc_owner_laws.proofs.AnsweredOnce.{answered_once}
 use Rattle.nc_owner_laws.proofs.Behind.{notice_is_first}
 use Rattle.nc_owner_laws.proofs.Drawn.{drawn_once}
 use Rattle.nc_rests.specs.Owners.{IsByOwner}
-use Rattle.nc_rests.specs.Standing.{AskIsOfOwner, StandsForSends}
+use Rattle.nc_rests.specs.ShowsForSends.{AskIsOfOwner, StandsForSends}
 
 -- ---- a local history is by its owner
 
@@ -41,9 +41,9 @@ owns : (workers me : ℕ) (c : List ℕ) (id : Id) (h : List Event) → IsStampe
 owns workers me c id [] stamped local has = absurd has
 owns workers me c id (Stored v d m slot len exp kept members from r ct body ∷ h) stamped local has =
     let p = own_parts me (Stored v d m slot len exp kept members from r ct body) h local in
-    by (name_eq d c) refl p.0 (owns workers me c id h stamped.0 p.1) has
+    by (bytes_eq d c) refl p.0 (owns workers me c id h stamped.0 p.1) has
   where
-    by : (b : Bool) → name_eq d c ≡ b → (me == v) ≡ true → (HasId (published c h) id → me ≡ owner_of workers c) → HasId (cond b (published c h ++ message_of m slot exp ct body ∷ []) (published c h)) id → me ≡ owner_of workers c
+    by : (b : Bool) → bytes_eq d c ≡ b → (me == v) ≡ true → (HasId (published c h) id → me ≡ owner_of workers c) → HasId (cond b (published c h ++ stored_message m slot exp ct body ∷ []) (published c h)) id → me ≡ owner_of workers c
     by true same mine rest there = eqb-true me v mine ∙ stamped.1.owner ∙ ap (owner_of workers) (same_text d c (sym same))
     by false other mine rest there = rest there
 owns workers me c id (e ∷ h) stamped local has = owns workers me c id h stamped.0 (own_parts me e h local).1 has

@@ -1,15 +1,15 @@
 -- Floors never fall, and what is stored is at or above the floor and has a tag.
 use Rattle.std.proofs.Common.{ℕ, ◌≤◌, ◌≤ℤ◌, pos, negsuc, max, Bool, true, false, cond, List, [], ◌∷◌, ◌++◌, Option, None, Some, sym, subst, arith}
-use Rattle.std.specs.Prelude.{IfSome, unwrap_or}
+use Rattle.std.specs.Prelude.{IfSome, unwrap_or, bytes_eq}
 use Rattle.std.specs.List.{AllByRecursion}
 use Rattle.std.specs.Cmp.Lexicographic.{same_text}
 use Rattle.std.proofs.lemmas.Bool.{cond_both}
 use Rattle.std.proofs.lemmas.Int.{ints}
 use Rattle.nc_types.specs.Id.{Id}
-use Rattle.nc_types.specs.Channel.{owner_of, name_eq}
+use Rattle.nc_types.specs.Channel.{owner_of}
 use Rattle.nc_journal.specs.History.{own, is_by}
 use Rattle.nc_journal.specs.Stamp.{floor_of, StampedAt, IsStamped, last_of, clock_of, spent_of, made_last, greater_id, next_id, IsStamp}
-use Rattle.nc_journal.specs.Message.{Message, published, message_of}
+use Rattle.nc_journal.specs.Message.{Message, published, stored_message}
 use Rattle.nc_journal.specs.declared.event.Event.{Event}
 use Rattle.nc_journal.specs.declared.event.Event.TheVariants.{Joined, Stored, Looked, Removed}
 use Rattle.nc_journal.proofs.Cuts.{all-weaker, all-append}
@@ -68,10 +68,10 @@ KeepsTags (Removed w c last cause) = IsLow last
 KeepsTags e = Unit {0}
 
 low_step : (e : Event) (l : List Event) → KeepsTags e → LowTags l → LowTags (e ∷ l)
-low_step (Stored w d id slot len exp kept members from r ct body) l p k = record { spent = k.spent; made = λ c. some_low (name_eq d c) (made_last c l) id p (k.made c) }
-low_step (Looked w q from number d after floor found) l p k = record { spent = k.spent; made = λ c. some_low (name_eq d c) (made_last c l) (last_of c l) (low_last c l k) (k.made c) }
-low_step (Joined w d from n) l p k = record { spent = k.spent; made = λ c. some_low (name_eq d c) (made_last c l) (last_of c l) (low_last c l k) (k.made c) }
-low_step (Removed w d last cause) l p k = record { spent = greater_low (spent_of l) last k.spent p; made = λ c. none_low (name_eq d c) (made_last c l) (k.made c) }
+low_step (Stored w d id slot len exp kept members from r ct body) l p k = record { spent = k.spent; made = λ c. some_low (bytes_eq d c) (made_last c l) id p (k.made c) }
+low_step (Looked w q from number d after floor found) l p k = record { spent = k.spent; made = λ c. some_low (bytes_eq d c) (made_last c l) (last_of c l) (low_last c l k) (k.made c) }
+low_step (Joined w d from n) l p k = record { spent = k.spent; made = λ c. some_low (bytes_eq d c) (made_last c l) (last_of c l) (low_last c l k) (k.made c) }
+low_step (Removed w d last cause) l p k = record { spent = greater_low (spent_of l) last k.spent p; made = λ c. none_low (bytes_eq d c) (made_last c l) (k.made c) }
 low_step e l p k = record { spent = k.spent; made = k.made }
 
 -- a message that is stored under the stamp rule has a tag
@@ -110,7 +110,7 @@ IsFrom time m = (time ≤ m.id.time) × (pos 0 ≤ℤ m.id.tag)
 -- what an event stores is at or above the floor, and has a tag
 pub stores_from : (workers : ℕ) (c : List ℕ) (e : Event) (h : List Event) → IsStamped workers h → StampedAt workers h e → AllByRecursion (IsFrom (floor_of (own (owner_of workers c) h))) (published c (e ∷ []))
 stores_from workers c (Stored w d id slot len exp kept members from r ct body) h stamped s =
-    cond_both (name_eq d c) ([] ++ message_of id slot exp ct body ∷ []) [] (AllByRecursion (IsFrom (floor_of (own (owner_of workers c) h))))
+    cond_both (bytes_eq d c) ([] ++ stored_message id slot exp ct body ∷ []) [] (AllByRecursion (IsFrom (floor_of (own (owner_of workers c) h))))
     (λ same. ((subst (λ (n : List ℕ). floor_of (own (owner_of workers n) h) ≤ id.time) (same_text d c (sym same)) (stored_floor workers w d id h s), stored_tag workers w d id h stamped s), tt))
     (λ _. tt)
 stores_from workers c e h stamped s = tt
@@ -137,7 +137,7 @@ pub floor_above : (c : List ℕ) (l : List Event) → AllByRecursion (λ m. m.id
 floor_above c [] = tt
 floor_above c (Stored w d id slot len exp kept members from r ct body ∷ l) =
     let older : AllByRecursion (λ m. m.id.time ≤ max (floor_of l) id.time) (published c l) = all-weaker (λ m. m.id.time ≤ floor_of l) (λ m. m.id.time ≤ max (floor_of l) id.time) (λ m k. omega (arith, k)) (published c l) (floor_above c l) in
-    cond_both (name_eq d c) (published c l ++ message_of id slot exp ct body ∷ []) (published c l) (AllByRecursion (λ m. m.id.time ≤ max (floor_of l) id.time))
-    (λ _. all-append (λ m. m.id.time ≤ max (floor_of l) id.time) (published c l) (message_of id slot exp ct body ∷ []) older (omega arith, tt))
+    cond_both (bytes_eq d c) (published c l ++ stored_message id slot exp ct body ∷ []) (published c l) (AllByRecursion (λ m. m.id.time ≤ max (floor_of l) id.time))
+    (λ _. all-append (λ m. m.id.time ≤ max (floor_of l) id.time) (published c l) (stored_message id slot exp ct body ∷ []) older (omega arith, tt))
     (λ _. older)
 floor_above c (e ∷ l) = all-weaker (λ m. m.id.time ≤ floor_of l) (λ m. m.id.time ≤ floor_of (e ∷ l)) (λ m k. omega (arith, k, floor_step e l)) (published c l) (floor_above c l)

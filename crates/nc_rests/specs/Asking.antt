@@ -40,11 +40,13 @@ pub record AsksWell (w : ℕ) (h : List Event) : Type 0 where
 
 -- where a number was drawn once, the looks by it are at the channel and past the id that it was drawn for
 abbrev pub AskedOnce : Type 0
-AskedOnce = (w number : ℕ) (c : List ℕ) (after : Id) (asks l : List Event) → times number (ask_numbers asks) ≤ 1 → HasAsk number c after asks → AreAsked w asks l → IsAsked w number c after l
+AskedOnce = (w number : ℕ) (c : List ℕ) (after : Id) (asks l : List Event) → times number (ask_numbers asks) ≤ 1 → HasAsk number c after asks
+    → AreAsked w asks l → IsAsked w number c after l
 
 -- a look that an owner takes next was asked for
 abbrev pub NextAsked : Type 0
-NextAsked = (w o number : ℕ) (c : List ℕ) (after : Id) (fence : ℕ) (h : List Event) → IsNext w o (Look number c after fence) h → HasAsk number c after (own w h)
+NextAsked = (w o number : ℕ) (c : List ℕ) (after : Id) (fence : ℕ) (h : List Event) → IsNext w o (Look number c after fence) h
+    → HasAsk number c after (own w h)
 
 -- what was asked for stays so, whatever its worker does
 abbrev pub AsksStay : Type 0

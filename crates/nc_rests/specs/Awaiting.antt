@@ -25,5 +25,6 @@ pub record LearnsFrom (workers w : ℕ) (c : List ℕ) (after : Id) (from q floo
 
 abbrev pub PlaceAnswered : Type 0
 PlaceAnswered = (workers w : ℕ) (c : List ℕ) (after : Id) (number : ℕ) (earlier : Option Quiet) (from q floor : ℕ) (news : Option News) (g slot : Option ℕ) (n : ℕ) (kind : AlertKind) (h : List Event)
-    → Owners workers h → ((o : ℕ) → Along AnswersAt (own o h)) → AsksWell w h → IsNext from w (LookAnswer number q floor (option_map (λ (x : News). x.id) news) g slot) h
+    → Owners workers h → ((o : ℕ) → Along AnswersAt (own o h)) → AsksWell w h
+    → IsNext from w (LookAnswer number q floor (option_map (λ (x : News). x.id) news) g slot) h
     → PlaceHolds workers w c after (places.Asked number earlier) h → LearnsFrom workers w c after from q floor n kind news h

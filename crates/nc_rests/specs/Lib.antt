@@ -5,7 +5,7 @@ pub mod Asking
 pub mod Answering
 pub mod Telling
 pub mod Owners
-pub mod Standing
+pub mod ShowsForSends
 pub mod Places
 pub mod Awaiting
 pub mod Spools

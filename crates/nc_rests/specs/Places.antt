@@ -43,23 +43,27 @@ HeardHolds workers w c after place (Finds found) h = PlaceHolds workers w c afte
 
 -- an event keeps it, but that the worker takes an alert of the channel's owner
 abbrev pub PlaceStays : Type 0
-PlaceStays = (workers w : ℕ) (c : List ℕ) (after : Id) (place : Place) (e : Event) (h : List Event) → takes (owner_of workers c) w e ≡ false → PlaceHolds workers w c after place h → PlaceHolds workers w c after place (e ∷ h)
+PlaceStays = (workers w : ℕ) (c : List ℕ) (after : Id) (place : Place) (e : Event) (h : List Event) → takes (owner_of workers c) w e ≡ false
+    → PlaceHolds workers w c after place h → PlaceHolds workers w c after place (e ∷ h)
 
 -- such an alert keeps it too, unless it signals the channel
 abbrev pub PlaceTakes : Type 0
-PlaceTakes = (workers w : ℕ) (c : List ℕ) (after : Id) (place : Place) (from n : ℕ) (kind : AlertKind) (a : AlertLine) (h : List Event) → IsNext from w a h → (from ≡ owner_of workers c → is_signal c a ≡ false)
+PlaceTakes = (workers w : ℕ) (c : List ℕ) (after : Id) (place : Place) (from n : ℕ) (kind : AlertKind) (a : AlertLine) (h : List Event)
+    → IsNext from w a h → (from ≡ owner_of workers c → is_signal c a ≡ false)
     → PlaceHolds workers w c after place h → PlaceHolds workers w c after place (Took w from n kind ∷ h)
 
 -- a place is asked by the making of its look; and so it is behind a fence, beside its earlier answer
 abbrev pub PlaceAsks : Type 0
-PlaceAsks = (workers w to number : ℕ) (c : List ℕ) (after : Id) (fence n : ℕ) (earlier : Option Quiet) (h : List Event) → EarlierHolds workers w c after earlier h
+PlaceAsks = (workers w to number : ℕ) (c : List ℕ) (after : Id) (fence n : ℕ) (earlier : Option Quiet) (h : List Event)
+    → EarlierHolds workers w c after earlier h
     → PlaceHolds workers w c after (places.Asked number earlier) (Made w to n (Look number c after fence) ∷ h)
 
 -- the answer to its look
 abbrev pub PlaceLearns : Type 0
 PlaceLearns = (workers w : ℕ) (c : List ℕ) (after : Id) (number q floor : ℕ) (news : Option News) (g slot : Option ℕ) (n : ℕ) (kind : AlertKind) (h : List Event) → let o = owner_of workers c in
     let found = option_map (λ (x : News). x.id) news in
-    IsNext o w (LookAnswer number q floor found g slot) h → HasLook o q w number floor found (own o h) → IsAsked w number c after (own o h) → Along LooksAt (own o h)
+    IsNext o w (LookAnswer number q floor found g slot) h → HasLook o q w number floor found (own o h) → IsAsked w number c after (own o h)
+    → Along LooksAt (own o h)
     → PlaceHolds workers w c after (learned after (record { q = q; floor = floor }) news) (Took w o n kind ∷ h)
 
 -- a message of its channel
@@ -75,4 +79,5 @@ PlaceLoses = (workers w : ℕ) (c : List ℕ) (after : Id) (place : Place) (n : 
 
 -- what it made of what it heard stays so until the place is treated, and after
 abbrev pub HeardStays : Type 0
-HeardStays = (workers w : ℕ) (c : List ℕ) (after : Id) (place : Place) (heard : Heard) (e : Event) (h : List Event) → takes (owner_of workers c) w e ≡ false → HeardHolds workers w c after place heard h → HeardHolds workers w c after place heard (e ∷ h)
+HeardStays = (workers w : ℕ) (c : List ℕ) (after : Id) (place : Place) (heard : Heard) (e : Event) (h : List Event)
+    → takes (owner_of workers c) w e ≡ false → HeardHolds workers w c after place heard h → HeardHolds workers w c after place heard (e ∷ h)

@@ -27,7 +27,8 @@ pub record BeginsWith (id : Id) (ms : List Message) : Type 0 where
 -- the look found the message, or found nothing and the message is the first one stored behind it
 pub data IsFound (o w q : ℕ) (c : List ℕ) (after id : Id) (l : List Event) : Type 0 where
   AtLook : (floor : ℕ) → LookAt o w q c after floor (Some id) l → IsFound o w q c after id l
-  Behind : (floor : ℕ) (look : LookAt o w q c after floor None l) → BeginsWith id (published c look.since) → IsPast id after → IsFound o w q c after id l
+  Behind : (floor : ℕ) (look : LookAt o w q c after floor None l) → BeginsWith id (published c look.since) → IsPast id after
+      → IsFound o w q c after id l
 
 -- a message that was found, and that came to the worker
 pub record IsFoundBy (workers w q : ℕ) (c : List ℕ) (after id : Id) (h : List Event) : Type 0 where

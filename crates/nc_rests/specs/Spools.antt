@@ -18,11 +18,13 @@ pub record SpoolHolds (workers w : ℕ) (list : List (List ℕ)) (cur : CursorAt
   pub distinct : AreDistinct list
   pub each : length places ≡ length list
   pub tags : length cur.tags ≡ length list
-  pub holds : (j : ℕ) (c : List ℕ) (p : Place) → slice_get list j ≡ Some c → slice_get places j ≡ Some p → PlaceHolds workers w c (cursor_id cur j) p h
+  pub holds : (j : ℕ) (c : List ℕ) (p : Place) → slice_get list j ≡ Some c → slice_get places j ≡ Some p
+      → PlaceHolds workers w c (cursor_id cur j) p h
 
 -- each place of a list rests
 abbrev pub PlacesRest : (workers w : ℕ) → List (List ℕ) → CursorAt → List Rest → List Event → Type 0
-PlacesRest workers w list cur rests h = (j : ℕ) (c : List ℕ) (r : Rest) → slice_get list j ≡ Some c → slice_get rests j ≡ Some r → RestsAt workers w c (cursor_id cur j) r h
+PlacesRest workers w list cur rests h = (j : ℕ) (c : List ℕ) (r : Rest) → slice_get list j ≡ Some c → slice_get rests j ≡ Some r
+    → RestsAt workers w c (cursor_id cur j) r h
 
 -- a spool of a list and a cursor, none of whose places is asked
 pub record IsSpool (workers w : ℕ) (list : List (List ℕ)) (cur : CursorAt) (rests : List Rest) (h : List Event) : Type 0 where
@@ -38,5 +40,6 @@ FoundNothing (Found q id) = ⊥
 
 -- where all was taken and no place of a spool is asked or found something, those who stand there lack nothing
 abbrev pub QuietSpools : Type 0
-QuietSpools = (workers w : ℕ) (list : List (List ℕ)) (once : Bool) (cur : CursorAt) (rests : List Rest) (h : List Event) → Owners workers h → ((o : ℕ) → OwnerTells o (own o h)) → ((o : ℕ) → TookAll o w h)
+QuietSpools = (workers w : ℕ) (list : List (List ℕ)) (once : Bool) (cur : CursorAt) (rests : List Rest) (h : List Event) → Owners workers h
+    → ((o : ℕ) → OwnerTells o (own o h)) → ((o : ℕ) → TookAll o w h)
     → IsSpool workers w list cur rests h → AllByRecursion FoundNothing rests → LacksNothing h (Standing list once cur)

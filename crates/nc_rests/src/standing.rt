@@ -1,6 +1,6 @@
 //! What owners tell and keep.
 ghost use Rattle.nc_rests.specs.Owners.{OwnersKeep};
-ghost use Rattle.nc_rests.specs.Standing.{StandsForSends};
+ghost use Rattle.nc_rests.specs.ShowsForSends.{StandsForSends};
 
 /// An owner that stands for its local history tells what places need, and keeps what sends need.
 pub fn stands_for_sends()

@@ -20,7 +20,7 @@ use Rattle.nc_route.specs.declared.reason.Reason.{Reason}
 use Rattle.nc_route.specs.declared.kind.Kind.{Kind}
 use Rattle.nc_route.specs.declared.kind.Kind.TheVariants as kinds
 use Rattle.nc_route.specs.Place.{is_exactly, is_front, NoneOf, IsLongest, IsLocationOf}
-use Rattle.nc_route.specs.Begin.{Given, IsStart, start_at, given, asks_socket}
+use Rattle.nc_route.specs.Begin.{Given, IsGivenStart, start_at, given, asks_socket}
 use Rattle.nc_route.specs.Begin.Given.{Nothing, Date, DateAndTags, Id}
 use Rattle.nc_route.specs.Rules.{content_type, Decides, DecidesBy, all_rules, IsAction, IsActionOf, IsSubscription, kind_of, names_of}
 use Rattle.nc_route.specs.Steps.{longer, longest, location_of}
@@ -109,7 +109,7 @@ the_location path ls None h =
 
 -- ---- one start, and one opening
 
-one_start : SpellsOneSecond → (settings : SettingsAt) (n : ℕ) (g : Given) (a b : Start) → IsStart settings n g a → IsStart settings n g b → a ≡ b
+one_start : SpellsOneSecond → (settings : SettingsAt) (n : ℕ) (g : Given) (a b : Start) → IsGivenStart settings n g a → IsGivenStart settings n g b → a ≡ b
 one_start second settings n Nothing a b x y = x ∙ sym y
 one_start second settings n (Date date) a b x y = x.2 ∙ ap (λ t. start_at t (replicate n (negsuc 0))) (second date x.0 y.0 x.1 y.1) ∙ sym y.2
 one_start second settings n (DateAndTags date text) a b x y =

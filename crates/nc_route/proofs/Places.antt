@@ -6,7 +6,7 @@ use Rattle.std.specs.Option.{option_or}
 use Rattle.std.proofs.lemmas.Bool.{both_ways}
 use Rattle.std.proofs.lemmas.List.{append-nil}
 use Rattle.nc_types.specs.declared.config.Location.{Location}
-use Rattle.nc_route.specs.Place.{is_exactly, is_front, NoneOf, IsFirst, IsLongest, IsLocationOf}
+use Rattle.nc_route.specs.Place.{is_exactly, is_front, NoneOf, IsFirstPassing, IsLongest, IsLocationOf}
 use Rattle.nc_route.specs.Steps.{longer, longest, location_of}
 
 -- ---- the first that passes a test
@@ -14,7 +14,7 @@ use Rattle.nc_route.specs.Steps.{longer, longest, location_of}
 -- the first, or none
 abbrev IsFound : (Location → Bool) → List Location → Option Location → Type 0
 IsFound test ls None = NoneOf test ls
-IsFound test ls (Some l) = IsFirst test ls l
+IsFound test ls (Some l) = IsFirstPassing test ls l
 
 behind : (test : Location → Bool) (x : Location) (ls : List Location) (o : Option Location) → test x ≡ false → IsFound test ls o → IsFound test (x ∷ ls) o
 behind test x ls None e h = (e, h)

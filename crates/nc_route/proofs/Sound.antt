@@ -14,7 +14,7 @@ use Rattle.nc_route.specs.declared.reason.Reason.{Reason}
 use Rattle.nc_route.specs.declared.reason.Reason.TheVariants as reasons
 use Rattle.nc_route.specs.declared.kind.Kind.{Kind}
 use Rattle.nc_route.specs.declared.kind.Kind.TheVariants as kinds
-use Rattle.nc_route.specs.Begin.{Given, IsStart, given, asks_socket}
+use Rattle.nc_route.specs.Begin.{Given, IsGivenStart, given, asks_socket}
 use Rattle.nc_route.specs.Begin.Given.{Nothing, Date, DateAndTags, Id}
 use Rattle.nc_route.specs.Rules.{Decides, DecidesBy, Breaks, refusal, all_rules, IsAction, IsActionOf, IsSubscription, kind_of, names_of}
 use Rattle.nc_route.specs.Laws.{IsStartOf, IsSound}
@@ -23,7 +23,7 @@ is_configured : (b : Bool) (n : ℕ) → IsStartOf n (cond b starts.Newest start
 is_configured true n = tt
 is_configured false n = tt
 
-is_of : (settings : SettingsAt) (n : ℕ) (g : Given) (start : Start) → IsStart settings n g start → IsStartOf n start
+is_of : (settings : SettingsAt) (n : ℕ) (g : Given) (start : Start) → IsGivenStart settings n g start → IsStartOf n start
 is_of settings n Nothing start h = subst (IsStartOf n) (sym h) (is_configured settings.newest n)
 is_of settings n (Date date) start h = subst (IsStartOf n) (sym h.2) (length-replicate n (negsuc 0))
 is_of settings n (DateAndTags date text) start h = subst (IsStartOf n) (sym h.5) h.4

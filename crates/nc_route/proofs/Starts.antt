@@ -14,7 +14,7 @@ use Rattle.nc_ident.specs.Refusal.{AreRefusedTags, IsRefusedId}
 use Rattle.nc_ident.specs.declared.refusal.IdRefusal.{IdRefusal}
 use Rattle.nc_ident.specs.declared.refusal.IdRefusal.TheVariants.{Malformed, TagCount, NoMemory}
 use Rattle.nc_ident.proofs.Pieces.{one_list, one_cursor}
-use Rattle.nc_route.specs.Begin.{Given, IsNoDate, given_by_date, given_by_socket, start_at, HasNoDate, AreMalformed, AreOthers, IsStart}
+use Rattle.nc_route.specs.Begin.{Given, IsNoDate, given_by_date, given_by_socket, start_at, HasNoDate, AreMalformed, AreOthers, IsGivenStart}
 use Rattle.nc_route.specs.Begin.Given.{Nothing, Date, DateAndTags, Id}
 use Rattle.nc_route.specs.Steps.{IsNoStart, unread}
 
@@ -44,25 +44,25 @@ pub id_given : (id : List ℕ) → false ≡ (length id == 0) → given_by_socke
 id_given [] e = absurd cc
 id_given (b ∷ bs) e = refl
 
-pub tags_started : (settings : SettingsAt) (n : ℕ) (date text : List ℕ) (time : ℕ) (cursor : CursorAt) → SpellsDate date time → cursor.time ≡ time → SpellsTags text cursor.tags → length cursor.tags ≡ n → IsStart settings n (DateAndTags date text) (starts.Given cursor)
+pub tags_started : (settings : SettingsAt) (n : ℕ) (date text : List ℕ) (time : ℕ) (cursor : CursorAt) → SpellsDate date time → cursor.time ≡ time → SpellsTags text cursor.tags → length cursor.tags ≡ n → IsGivenStart settings n (DateAndTags date text) (starts.Given cursor)
 tags_started settings n date text time cursor is same spelled count =
     (time, is, cursor.tags, spelled, count, ap (λ t. start_at t cursor.tags) same)
 
 -- ---- a start breaks none of the rules
 
-pub has_date : (settings : SettingsAt) (n : ℕ) (g : Given) (start : Start) → IsStart settings n g start → HasNoDate g → ⊥
+pub has_date : (settings : SettingsAt) (n : ℕ) (g : Given) (start : Start) → IsGivenStart settings n g start → HasNoDate g → ⊥
 has_date settings n Nothing start h bad = bad
 has_date settings n (Date date) start h bad = bad h.0 h.1
 has_date settings n (DateAndTags date text) start h bad = bad h.0 h.1
 has_date settings n (Id text) start h bad = bad
 
-pub well_formed : (settings : SettingsAt) (n : ℕ) (g : Given) (start : Start) → IsStart settings n g start → AreMalformed g → ⊥
+pub well_formed : (settings : SettingsAt) (n : ℕ) (g : Given) (start : Start) → IsGivenStart settings n g start → AreMalformed g → ⊥
 well_formed settings n Nothing start h bad = bad
 well_formed settings n (Date date) start h bad = bad
 well_formed settings n (DateAndTags date text) start h bad = bad h.2 h.3
 well_formed settings n (Id text) start h bad = bad h.0 h.1
 
-pub of_the_names : (settings : SettingsAt) (n : ℕ) (g : Given) (start : Start) → IsStart settings n g start → AreOthers n g → ⊥
+pub of_the_names : (settings : SettingsAt) (n : ℕ) (g : Given) (start : Start) → IsGivenStart settings n g start → AreOthers n g → ⊥
 of_the_names settings n Nothing start h bad = bad
 of_the_names settings n (Date date) start h bad = bad
 of_the_names settings n (DateAndTags date text) start h bad = bad.2 (ap length (one_list text bad.0 h.2 bad.1 h.3) ∙ h.4)

@@ -2,6 +2,7 @@
 use Rattle.std.proofs.Common.{◌≡◌, ℕ, ◌<◌, Bool, true, false, List, [], ◌∷◌, length, Option, Some, None, refl, sym, ◌∙◌, ap, subst, inl, inr, arith}
 use Rattle.std.specs.Prelude.{Result, Ok, Err, IfOk, IfErr, slice_get, nat_lt}
 use Rattle.std.proofs.lemmas.Bool.{both_ways}
+use Rattle.nc_types.specs.Text.{begins_slash}
 use Rattle.nc_types.specs.Config.{ConfigAt}
 use Rattle.nc_types.specs.declared.list.NoMemory.{NoMemory}
 use Rattle.nc_types.specs.declared.config.Location.{Location}
@@ -21,12 +22,12 @@ use Rattle.nc_route.specs.declared.kind.Kind.TheVariants as kinds
 use Rattle.nc_route.specs.declared.start.StartRefusal.{StartRefusal}
 use Rattle.nc_route.specs.declared.start.StartRefusal.TheVariants as refusals
 use Rattle.nc_route.specs.Query.{ids_of}
-use Rattle.nc_route.specs.Begin.{asks_socket, given, IsStart}
-use Rattle.nc_route.specs.Rules.{begins_slash, has_role, has_place, Decides, KeepsEarly, kind_of, IsSubscription, names_of, is_subscription, subscribes, start_rules, subscription_rules, list_rules, location_rules, IsActionOf, IsAction, refused}
+use Rattle.nc_route.specs.Begin.{asks_socket, given, IsGivenStart}
+use Rattle.nc_route.specs.Rules.{has_role, has_place, Decides, KeepsEarly, kind_of, IsSubscription, names_of, is_subscription, subscribes, start_rules, subscription_rules, list_rules, location_rules, IsActionOf, IsAction, refused}
 use Rattle.nc_route.specs.Place.{IsLocationOf}
 use Rattle.nc_route.proofs.Places.{is_location}
 use Rattle.nc_route.proofs.Starts.{has_date, well_formed, of_the_names}
-use Rattle.nc_route.specs.Steps.{IsNoStart, DecidesAt, Fits, only_name, for_one, IsStartRefusal, IsIdRefusal, location_of}
+use Rattle.nc_route.specs.Steps.{IsNoStart, DecidesAt, KeepsBodyAndMethod, only_name, for_one, IsStartRefusal, IsIdRefusal, location_of}
 
 pub if_ok : (P Q : Decision → Type 0) (r : Result Decision NoMemory) → ((d : Decision) → P d → Q d) → IfOk r P → IfOk r Q
 if_ok P Q (Ok d) f h = f d h
@@ -68,7 +69,7 @@ start_refused l q refusals.OtherTags d kind bad e = inr (λ b. bad.0 b.1, inr (�
 start_refused l q refusals.NoMemory d kind bad e = absurd e
 
 -- it is one
-started : (l : Location) (q : Request) (start : Start) (d : Decision) → IsStart l.settings (length (names_of l q)) (given q) start → IsAction (Some l) q d → DecidesAt start_rules l q d
+started : (l : Location) (q : Request) (start : Start) (d : Decision) → IsGivenStart l.settings (length (names_of l q)) (given q) start → IsAction (Some l) q d → DecidesAt start_rules l q d
 started l q start d is act =
     inr (
       λ b. has_date l.settings (length (names_of l q)) (given q) start is b.1,
@@ -86,13 +87,13 @@ pub poll_refused : (l : Location) (q : Request) (refusal : StartRefusal) (r : Re
 poll_refused l q refusal r kind way has bad h =
     if_ok (IsStartRefusal refusal) (λ d. DecidesAt subscription_rules l q d) r (λ d e. polled l q d way has (start_refused l q refusal d kind bad e)) h
 
-pub socket_started : (l : Location) (q : Request) (opening : Opening) (start : Start) → kind_of l q.method ≡ Some kinds.Subscribe → asks_socket q ≡ true → l.socket ≡ true → IsOpening q.fields opening → IsStart l.settings (length (names_of l q)) (given q) start → DecidesAt subscription_rules l q (decisions.Socket (names_of l q) start l.settings opening)
+pub socket_started : (l : Location) (q : Request) (opening : Opening) (start : Start) → kind_of l q.method ≡ Some kinds.Subscribe → asks_socket q ≡ true → l.socket ≡ true → IsOpening q.fields opening → IsGivenStart l.settings (length (names_of l q)) (given q) start → DecidesAt subscription_rules l q (decisions.Socket (names_of l q) start l.settings opening)
 socket_started l q opening start kind way has fit is =
     let d = decisions.Socket (names_of l q) start l.settings opening in
     opened l q d way has fit.opened (started l q start d is
     (subst (λ (k : Option Kind). IsActionOf k l q d) (sym kind) (subst (λ (b : Bool). IsSubscription b l q d) (sym way) (start, is, opening, fit, refl))))
 
-pub poll_started : (l : Location) (q : Request) (start : Start) → kind_of l q.method ≡ Some kinds.Subscribe → asks_socket q ≡ false → l.longpoll ≡ true → IsStart l.settings (length (names_of l q)) (given q) start → DecidesAt subscription_rules l q (decisions.LongPoll (names_of l q) start l.settings)
+pub poll_started : (l : Location) (q : Request) (start : Start) → kind_of l q.method ≡ Some kinds.Subscribe → asks_socket q ≡ false → l.longpoll ≡ true → IsGivenStart l.settings (length (names_of l q)) (given q) start → DecidesAt subscription_rules l q (decisions.LongPoll (names_of l q) start l.settings)
 poll_started l q start kind way has is =
     let d = decisions.LongPoll (names_of l q) start l.settings in
     polled l q d way has (started l q start d is
@@ -222,12 +223,12 @@ pub err_of : (P : Type 0) (r : Result Decision NoMemory) → P → IfErr r (λ e
 err_of P (Ok d) h = tt
 err_of P (Err e) h = h
 
-pub fits : (l : Location) (q : Request) (kind : Kind) → nat_lt l.settings.max_body (length q.body) ≡ false → kind_of l q.method ≡ Some kind → Fits l q
+pub fits : (l : Location) (q : Request) (kind : Kind) → nat_lt l.settings.max_body (length q.body) ≡ false → kind_of l q.method ≡ Some kind → KeepsBodyAndMethod l q
 fits l q kind short e = (not_more l.settings.max_body (length q.body) short, (a_kind (kind_of l q.method) kind e, tt))
 
-pub keeps_early : (conf : ConfigAt) (q : Request) (l : Location) (r : Result Decision NoMemory) → IsLocationOf q.path conf.locations (Some l) → begins_slash q.path ≡ true → has_role l ≡ true → IfErr r (λ e. Fits l q) → IfErr r (λ e. KeepsEarly conf q)
+pub keeps_early : (conf : ConfigAt) (q : Request) (l : Location) (r : Result Decision NoMemory) → IsLocationOf q.path conf.locations (Some l) → begins_slash q.path ≡ true → has_role l ≡ true → IfErr r (λ e. KeepsBodyAndMethod l q) → IfErr r (λ e. KeepsEarly conf q)
 keeps_early conf q l r is slash role h =
-    if_err (Fits l q) (KeepsEarly conf q) r
+    if_err (KeepsBodyAndMethod l q) (KeepsEarly conf q) r
     (λ fit. record {
       location = Some l;
       is_location = is;

@@ -90,9 +90,9 @@ abbrev pub start_at : ℕ → List ℤ → Start
 start_at time tags = starts.Given (record { time = time; tags = tags })
 
 -- the start that is given
-abbrev pub IsStart : SettingsAt → ℕ → Given → Start → Type 0
-IsStart settings n Nothing start = start ≡ configured settings
-IsStart settings n (Date date) start = (time : ℕ) × SpellsDate date time × (start ≡ start_at time (replicate n (negsuc 0)))
-IsStart settings n (DateAndTags date text) start =
+abbrev pub IsGivenStart : SettingsAt → ℕ → Given → Start → Type 0
+IsGivenStart settings n Nothing start = start ≡ configured settings
+IsGivenStart settings n (Date date) start = (time : ℕ) × SpellsDate date time × (start ≡ start_at time (replicate n (negsuc 0)))
+IsGivenStart settings n (DateAndTags date text) start =
     (time : ℕ) × SpellsDate date time × (tags : List ℤ) × SpellsTags text tags × (length tags ≡ n) × (start ≡ start_at time tags)
-IsStart settings n (Id text) start = (cursor : CursorAt) × SpellsId text cursor × (length cursor.tags ≡ n) × (start ≡ starts.Given cursor)
+IsGivenStart settings n (Id text) start = (cursor : CursorAt) × SpellsId text cursor × (length cursor.tags ≡ n) × (start ≡ starts.Given cursor)

@@ -1,12 +1,11 @@
 -- The arguments of a query, and the channel ids that a request gives.
-use Rattle.std.specs.Prelude.{ℕ, Bool, List, [], ◌==◌, ◌&&◌, Option, Some, None, map}
+use Rattle.std.specs.Prelude.{ℕ, Bool, List, [], ◌==◌, ◌&&◌, Option, Some, None, map, bytes_eq}
 use Rattle.std.specs.List.{find, list_any, flat_map, slice_split, before_first, after_first}
 use Rattle.nc_types.specs.declared.request.Request.{Request}
 use Rattle.nc_types.specs.declared.config.IdPart.{IdPart}
 use Rattle.nc_types.specs.declared.config.IdPart.TheVariants.{Plain, Arg}
 use Rattle.nc_types.specs.declared.config.IdText.{IdText}
 use Rattle.nc_types.specs.declared.config.Location.{Location}
-use Rattle.nc_accept.specs.Fields.{is_same}
 
 -- `&`
 abbrev pub is_and : ℕ → Bool
@@ -18,7 +17,7 @@ is_equals b = b == 61
 
 -- a piece of a query gives an argument: it has a `=`, and the name stands before the first
 abbrev pub gives : List ℕ → List ℕ → Bool
-gives name piece = list_any is_equals piece && is_same (before_first is_equals piece) name
+gives name piece = list_any is_equals piece && bytes_eq (before_first is_equals piece) name
 
 abbrev pub value_in : Option (List ℕ) → List ℕ
 value_in None = []

@@ -1,5 +1,6 @@
 -- The routing rules, and what a request asks for that breaks none.
-use Rattle.std.specs.Prelude.{◌≡◌, ◌⊎◌, ◌<◌, ℕ, Bool, true, false, not, List, [], ◌∷◌, length, codes, if◌then◌else◌, ◌==◌, ◌||◌, Option, Some, None}
+use Rattle.std.specs.Prelude.{◌≡◌, ◌⊎◌, ◌<◌, ℕ, Bool, true, false, not, List, [], ◌∷◌, length, codes, if◌then◌else◌, ◌==◌, ◌||◌, Option, Some, None, bytes_eq}
+use Rattle.nc_types.specs.Text.{begins_slash}
 use Rattle.nc_types.specs.Config.{ConfigAt}
 use Rattle.nc_types.specs.declared.request.Request.{Request}
 use Rattle.nc_types.specs.declared.request.Allow.{Allow}
@@ -9,7 +10,7 @@ use Rattle.nc_types.specs.declared.start.Start.{Start}
 use Rattle.nc_multi.specs.Names.{distinct, IsEmptyAt, IsTooLong, AreTooMany}
 use Rattle.nc_accept.specs.declared.opening.Opening.{Opening}
 use Rattle.nc_accept.specs.Opening.{opens, IsOpening}
-use Rattle.nc_accept.specs.Fields.{is_same, values, first}
+use Rattle.nc_accept.specs.Fields.{values, first}
 use Rattle.nc_route.specs.declared.decision.Decision.{Decision}
 use Rattle.nc_route.specs.declared.decision.Decision.TheVariants as decisions
 use Rattle.nc_route.specs.declared.reason.Reason.{Reason}
@@ -18,13 +19,9 @@ use Rattle.nc_route.specs.declared.kind.Kind.{Kind}
 use Rattle.nc_route.specs.declared.kind.Kind.TheVariants as kinds
 use Rattle.nc_route.specs.Place.{IsLocationOf}
 use Rattle.nc_route.specs.Query.{ids_of}
-use Rattle.nc_route.specs.Begin.{asks_socket, given, HasNoDate, AreMalformed, AreOthers, IsStart}
+use Rattle.nc_route.specs.Begin.{asks_socket, given, HasNoDate, AreMalformed, AreOthers, IsGivenStart}
 
 -- ---- what a request asks for
-
-abbrev pub begins_slash : List ℕ → Bool
-begins_slash [] = false
-begins_slash (b ∷ bs) = b == 47
 
 abbrev pub has_subscriber : Location → Bool
 has_subscriber l = l.longpoll || l.socket
@@ -40,10 +37,10 @@ has_place (Some l) = has_role l
 -- what a method asks for at a location; GET subscribes where that may be, else it asks for information
 abbrev pub kind_of : Location → List ℕ → Option Kind
 kind_of l method =
-    if is_same method (codes "GET") then (if has_subscriber l then Some kinds.Subscribe else Some kinds.Inform)
+    if bytes_eq method (codes "GET") then (if has_subscriber l then Some kinds.Subscribe else Some kinds.Inform)
     else (if not l.publisher then None
-    else (if is_same method (codes "POST") || is_same method (codes "PUT") then Some kinds.Publish
-    else (if is_same method (codes "DELETE") then Some kinds.Delete
+    else (if bytes_eq method (codes "POST") || bytes_eq method (codes "PUT") then Some kinds.Publish
+    else (if bytes_eq method (codes "DELETE") then Some kinds.Delete
     else None)))
 
 -- the channels of a request, each once
@@ -140,11 +137,11 @@ refusal reason found = refused reason (allow_of reason found)
 -- a long poll, or a WebSocket with its opening
 abbrev pub IsSubscription : Bool → Location → Request → Decision → Type 0
 IsSubscription true l q d =
-    (start : Start) × IsStart l.settings (length (names_of l q)) (given q) start
+    (start : Start) × IsGivenStart l.settings (length (names_of l q)) (given q) start
     × (opening : Opening) × IsOpening q.fields opening
     × (d ≡ decisions.Socket (names_of l q) start l.settings opening)
 IsSubscription false l q d =
-    (start : Start) × IsStart l.settings (length (names_of l q)) (given q) start
+    (start : Start) × IsGivenStart l.settings (length (names_of l q)) (given q) start
     × (d ≡ decisions.LongPoll (names_of l q) start l.settings)
 
 -- the content type of what is published

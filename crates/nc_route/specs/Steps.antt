@@ -55,8 +55,8 @@ abbrev pub DecidesAt : List Reason → Location → Request → Decision → Typ
 DecidesAt rs l q d = DecidesBy rs (Some l) q d
 
 -- the body and the method of a request are right at its location
-abbrev pub Fits : Location → Request → Type 0
-Fits l q = Keeps (reasons.LongBody ∷ reasons.OtherMethod ∷ []) (Some l) q
+abbrev pub KeepsBodyAndMethod : Location → Request → Type 0
+KeepsBodyAndMethod l q = Keeps (reasons.LongBody ∷ reasons.OtherMethod ∷ []) (Some l) q
 
 -- the one name of a list of one
 abbrev pub only_name : List (List ℕ) → Option (List ℕ)

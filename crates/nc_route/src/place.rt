@@ -2,20 +2,10 @@
 ghost use Rattle.std.specs.Prelude.{◌≡◌};
 ghost use Rattle.std.specs.List.{find};
 ghost use Rattle.std.specs.Option.{option_copied};
-ghost use Rattle.nc_route.specs.Rules.{begins_slash};
 ghost use Rattle.nc_route.specs.Place.{is_exactly, is_front, IsLocationOf};
 ghost use Rattle.nc_route.specs.Steps.{longer, longest, location_of};
 
 use nc_types::Location;
-
-pub(crate) fn begins_slash(path: &[u8]) -> bool
-    ensures { result ≡ begins_slash path.now }
-{
-    match path {
-        [] => false,
-        [byte, ..] => *byte == b'/',
-    }
-}
 
 /// Whether a location is for this path alone.
 fn is_exactly(path: &[u8], location: &Location) -> bool

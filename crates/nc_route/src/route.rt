@@ -8,17 +8,18 @@ ghost use Rattle.nc_route.specs.Begin.{asks_socket};
 ghost use Rattle.nc_route.specs.Query.{ids_of};
 ghost use Rattle.nc_route.specs.Rules.{Decides, location_rules, list_rules, subscription_rules, names_of, kind_of, content_type, refused, KeepsEarly};
 ghost use Rattle.nc_types.specs.declared.request.Allow.TheVariants as allows;
-ghost use Rattle.nc_route.specs.Steps.{DecidesAt, Fits, only_name, for_one, Opens, IsStartRefusal, IsIdRefusal};
+ghost use Rattle.nc_route.specs.Steps.{DecidesAt, KeepsBodyAndMethod, only_name, for_one, Opens, IsStartRefusal, IsIdRefusal};
 
 use crate::decision::Decision;
 use crate::kind::{Kind, allowed_at, has_role, kind_of};
-use crate::place::{begins_slash, location_of};
+use crate::place::location_of;
 use crate::query::ids_of;
 use crate::reason::Reason;
 use crate::start::{StartRefusal, asks_socket, start};
 use nc_accept::fields::first_value;
 use nc_accept::{HandRefusal, Opening, judge};
 use nc_multi::{ListRefusal, list_of};
+use nc_types::text::begins_slash;
 use nc_types::{
     Allow, Bytes, ChanList, ChanName, Config, List, Location, NoMemory, Request, Settings,
 };
@@ -239,7 +240,7 @@ fn channels(alloc: Global, settings: &Settings, ids: &[Bytes]) -> Result<ChanLis
 /// What is decided of a request at its location.
 fn at_location(alloc: Global, location: &Location, request: &Request) -> Result<Decision, NoMemory>
     ensures decided { IfOk result (λ d. DecidesAt location_rules location.now request.now d) }
-    ensures wanting { IfErr result (λ _. Fits location.now request.now) }
+    ensures wanting { IfErr result (λ _. KeepsBodyAndMethod location.now request.now) }
 {
     if is_long(&location.settings, &request.body) {
         return Ok(refuse(Reason::LongBody));

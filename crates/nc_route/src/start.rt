@@ -3,7 +3,7 @@ ghost use Rattle.std.specs.Prelude.{◌≡◌, ◌<◌, ℕ, length, replicate, 
 ghost use Rattle.std.specs.Option.{option_copied};
 ghost use Rattle.nc_types.specs.Id.{IsTime};
 ghost use Rattle.nc_types.specs.Settings.{SettingsAt};
-ghost use Rattle.nc_route.specs.Begin.{asks_socket, without_weak, without_quotes, tags_in, given_by_date, poll_given, socket_given, given, configured, start_at, IsStart};
+ghost use Rattle.nc_route.specs.Begin.{asks_socket, without_weak, without_quotes, tags_in, given_by_date, poll_given, socket_given, given, configured, start_at, IsGivenStart};
 ghost use Rattle.nc_route.specs.declared.start.StartRefusal.TheVariants as refusals;
 ghost use Rattle.nc_route.specs.Steps.{IsNoStart, unread};
 
@@ -109,7 +109,7 @@ fn blank(alloc: Global, time: u64, n: usize) -> Result<Start, NoMemory>
 /// The start of a date, and of the value with the tags, if there is one, of `n` names.
 fn dated(alloc: Global, n: usize, date: &[u8], tags: Option<&[u8]>) -> Result<Start, StartRefusal>
     requires { 0 < n }
-    ensures ok { (settings : SettingsAt) → IfOk result (λ start. IsStart settings n (given_by_date date.now (option_copied tags.entry)) start) }
+    ensures ok { (settings : SettingsAt) → IfOk result (λ start. IsGivenStart settings n (given_by_date date.now (option_copied tags.entry)) start) }
     ensures err { IfErr result (λ refusal. IsNoStart n (given_by_date date.now (option_copied tags.entry)) refusal) }
 {
     let Some(time) = read_date(date) else {
@@ -129,7 +129,7 @@ fn poll_start(
     request: &Request,
 ) -> Result<Start, StartRefusal>
     requires { 0 < n }
-    ensures ok { IfOk result (λ start. IsStart settings.now n (poll_given request.now) start) }
+    ensures ok { IfOk result (λ start. IsGivenStart settings.now n (poll_given request.now) start) }
     ensures err { IfErr result (λ refusal. IsNoStart n (poll_given request.now) refusal) }
 {
     let fields = request.fields.as_slice();
@@ -146,7 +146,7 @@ fn socket_start(
     n: usize,
     request: &Request,
 ) -> Result<Start, StartRefusal>
-    ensures ok { IfOk result (λ start. IsStart settings.now n (socket_given request.now) start) }
+    ensures ok { IfOk result (λ start. IsGivenStart settings.now n (socket_given request.now) start) }
     ensures err { IfErr result (λ refusal. IsNoStart n (socket_given request.now) refusal) }
 {
     let id = argument(b"last_event_id", query_of(&request.query));
@@ -164,7 +164,7 @@ pub(crate) fn start(
     request: &Request,
 ) -> Result<Start, StartRefusal>
     requires { 0 < n }
-    ensures ok { IfOk result (λ start. IsStart settings.now n (given request.now) start) }
+    ensures ok { IfOk result (λ start. IsGivenStart settings.now n (given request.now) start) }
     ensures err { IfErr result (λ refusal. IsNoStart n (given request.now) refusal) }
 {
     if asks_socket(request) {

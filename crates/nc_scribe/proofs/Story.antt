@@ -11,7 +11,7 @@ use Rattle.nc_worker_state.specs.Worker.{sent_to}
 use Rattle.nc_outbox.specs.Outboxes.{next_of}
 use Rattle.nc_scribe.specs.Kinds.{is_aside}
 use Rattle.nc_scribe.specs.Story.{Story, went_on}
-use Rattle.nc_scribe.specs.Scribe.{ScribeAt, story_of, Tells}
+use Rattle.nc_scribe.specs.Scribe.{ScribeAt, story_of, TellsMore}
 
 pub next_after-append : (es fs : List Event) (next : ℕ → ℕ) → next_after next (es ++ fs) ≡ next_after (next_after next es) fs
 next_after-append [] fs next = refl
@@ -48,18 +48,18 @@ went_on-nil s = λ i. record { events = append-nil s.events i; next = s.next; ou
 
 module _ {H : Type 0} where
   -- what is told behind what was told
-  pub tells_on : {a b c : ScribeAt H} {es fs : List Event} → Tells a b es → Tells b c fs → Tells a c (es ++ fs)
+  pub tells_on : {a b c : ScribeAt H} {es fs : List Event} → TellsMore a b es → TellsMore b c fs → TellsMore a c (es ++ fs)
   tells_on {a} {b} {c} {es} {fs} p q = record {
     me = q.me ∙ p.me;
     story = q.story ∙ ap (λ (s : Story). went_on s fs) p.story ∙ went_on-append (story_of a) es fs;
   }
 
-  pub tells_none : (a : ScribeAt H) → Tells a a []
+  pub tells_none : (a : ScribeAt H) → TellsMore a a []
   tells_none a = record { me = refl; story = sym (went_on-nil (story_of a)) }
 
-  pub tells_same : {a b : ScribeAt H} {es fs : List Event} → es ≡ fs → Tells a b es → Tells a b fs
+  pub tells_same : {a b : ScribeAt H} {es fs : List Event} → es ≡ fs → TellsMore a b es → TellsMore a b fs
   tells_same {a} {b} {es} {fs} same p = record { me = p.me; story = p.story ∙ ap (went_on (story_of a)) same }
 
   -- the next numbers after it
-  pub tells_next : {a b : ScribeAt H} {es : List Event} → Tells a b es → next_of b.outboxes ≡ next_after (next_of a.outboxes) es
+  pub tells_next : {a b : ScribeAt H} {es : List Event} → TellsMore a b es → next_of b.outboxes ≡ next_after (next_of a.outboxes) es
   tells_next p = ap (λ (s : Story). s.next) p.story

@@ -12,7 +12,7 @@ use Rattle.nc_owner_laws.specs.Weave.{weave, makes}
 use Rattle.nc_worker_state.specs.Deed.{next_after}
 use Rattle.nc_outbox.specs.Outboxes.{next_of, IsGranted}
 use Rattle.nc_scribe.specs.Kinds.{is_aside, is_grant}
-use Rattle.nc_scribe.specs.Scribe.{ScribeAt, made_event, Tells, KeepsOwn, AllGranted}
+use Rattle.nc_scribe.specs.Scribe.{ScribeAt, made_event, TellsMore, KeepsOwn, AllGranted}
 use Rattle.nc_scribe.specs.Weaving.{first_made, behind_first, TellsNext, TellsPart}
 use Rattle.nc_scribe.proofs.Story.{next_after-aside, tells_on, tells_next, tells_none, tells_same}
 
@@ -36,7 +36,7 @@ module _ {H : Type 0} where
   granted_behind held me (o ∷ alerts) all = all.1
 
   -- the numbers after an event that makes nothing
-  same_next : {s t : ScribeAt H} {e : Event} → is_aside e ≡ true → Tells s t (e ∷ []) → next_of t.outboxes ≡ next_of s.outboxes
+  same_next : {s t : ScribeAt H} {e : Event} → is_aside e ≡ true → TellsMore s t (e ∷ []) → next_of t.outboxes ≡ next_of s.outboxes
   same_next {s} {t} {e} aside q = tells_next q ∙ next_after-aside e [] (next_of s.outboxes) aside
 
   pub part_none : (a : ScribeAt H) (events : List Event) (alerts : List (Outgoing H)) → TellsPart a a events events alerts alerts
@@ -44,7 +44,7 @@ module _ {H : Type 0} where
 
   -- an event was told that grants nothing
   pub part_other : {a s t : ScribeAt H} {events left : List Event} {alerts rest : List (Outgoing H)} {e : Event} → is_aside e ≡ true → is_grant e ≡ false
-      → TellsPart a s events (e ∷ left) alerts rest → Tells s t (e ∷ []) → ((held : H → HoldAt) → KeepsOwn held s t) → TellsPart a t events left alerts rest
+      → TellsPart a s events (e ∷ left) alerts rest → TellsMore s t (e ∷ []) → ((held : H → HoldAt) → KeepsOwn held s t) → TellsPart a t events left alerts rest
   part_other {a} {s} {t} {events} {left} {alerts} {rest} {e} aside other p q own =
       let same : e ∷ weave t.me (next_of t.outboxes) left (out_lines rest) ≡ e ∷ weave s.me (next_of s.outboxes) left (out_lines rest) = λ i. e ∷ weave (q.me i) (same_next aside q i) left (out_lines rest) in
       record {
@@ -57,7 +57,7 @@ module _ {H : Type 0} where
 
   -- an event was told that grants a hold, and the next alert was made
   pub part_grant : {a s t u : ScribeAt H} {events left : List Event} {alerts rest later : List (Outgoing H)} {e : Event} → is_aside e ≡ true → is_grant e ≡ true
-      → TellsPart a s events (e ∷ left) alerts rest → Tells s t (e ∷ []) → ((held : H → HoldAt) → KeepsOwn held s t) → TellsNext t u rest later → TellsPart a u events left alerts later
+      → TellsPart a s events (e ∷ left) alerts rest → TellsMore s t (e ∷ []) → ((held : H → HoldAt) → KeepsOwn held s t) → TellsNext t u rest later → TellsPart a u events left alerts later
   part_grant {a} {s} {t} {u} {events} {left} {alerts} {rest} {later} {e} aside is p q own r =
       let next = next_of s.outboxes in
       let first = first_made t.me (next_of t.outboxes) rest in
@@ -73,7 +73,7 @@ module _ {H : Type 0} where
       }
 
   -- of the other alerts one more was made
-  pub part_made : {a s t : ScribeAt H} {alerts rest : List (Outgoing H)} {o : Outgoing H} → TellsPart a s [] [] alerts (o ∷ rest) → Tells s t (made_event s.me (next_of s.outboxes) o ∷ [])
+  pub part_made : {a s t : ScribeAt H} {alerts rest : List (Outgoing H)} {o : Outgoing H} → TellsPart a s [] [] alerts (o ∷ rest) → TellsMore s t (made_event s.me (next_of s.outboxes) o ∷ [])
       → ((held : H → HoldAt) → IfSome (grant_of o.alert) (IsGranted held s.me) → KeepsOwn held s t) → TellsPart a t [] [] alerts rest
   part_made {a} {s} {t} {alerts} {rest} {o} p q own =
       let first = made_event s.me (next_of s.outboxes) o in
@@ -85,10 +85,10 @@ module _ {H : Type 0} where
         granted = λ held all. subst (λ (m : ℕ). AllGranted held m rest) (sym q.me) (p.granted held all).1;
       }
 
-  pub parts_made : {a s : ScribeAt H} {alerts rest : List (Outgoing H)} → rest ≡ [] → TellsPart a s [] [] alerts rest → Tells a s (makes a.me (next_of a.outboxes) (out_lines alerts))
+  pub parts_made : {a s : ScribeAt H} {alerts rest : List (Outgoing H)} → rest ≡ [] → TellsPart a s [] [] alerts rest → TellsMore a s (makes a.me (next_of a.outboxes) (out_lines alerts))
   parts_made {a} {s} {alerts} {rest} none p = tells_same (sym (append-nil p.part) ∙ (ap (λ (l : List (Outgoing H)). p.part ++ makes s.me (next_of s.outboxes) (out_lines l)) (sym none) ∙ p.woven)) p.tells
 
   -- all events were told, and the other alerts were made
-  pub woven_whole : {a b c : ScribeAt H} {events : List Event} {alerts rest : List (Outgoing H)} → TellsPart a b events [] alerts rest → Tells b c (makes b.me (next_of b.outboxes) (out_lines rest))
-      → Tells a c (weave a.me (next_of a.outboxes) events (out_lines alerts))
+  pub woven_whole : {a b c : ScribeAt H} {events : List Event} {alerts rest : List (Outgoing H)} → TellsPart a b events [] alerts rest → TellsMore b c (makes b.me (next_of b.outboxes) (out_lines rest))
+      → TellsMore a c (weave a.me (next_of a.outboxes) events (out_lines alerts))
   woven_whole p q = tells_same p.woven (tells_on p.tells q)

@@ -39,7 +39,7 @@ module _ {H : Type 0} where
   AllGranted held me alerts = AllByRecursion (λ o. IfSome (grant_of o.alert) (IsGranted held me)) alerts
 
   -- it told some events more
-  pub record Tells (old new : ScribeAt H) (es : List Event) : Type 0 where
+  pub record TellsMore (old new : ScribeAt H) (es : List Event) : Type 0 where
     pub me : new.me ≡ old.me
     pub story : story_of new ≡ went_on (story_of old) es
 

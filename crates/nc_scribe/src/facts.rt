@@ -4,7 +4,7 @@ ghost use Rattle.nc_slots.specs.Slots.{HoldAt};
 ghost use Rattle.nc_worker_state.specs.Deed.{told};
 ghost use Rattle.nc_worker_state.specs.Spooled.{fact_deed, facts_deeds, ended_cause};
 ghost use Rattle.nc_outbox.specs.Outboxes.{next_of};
-ghost use Rattle.nc_scribe.specs.Scribe.{Tells, KeepsOwn, sent_event};
+ghost use Rattle.nc_scribe.specs.Scribe.{TellsMore, KeepsOwn, sent_event};
 
 use crate::scribe::Scribe;
 use nc_journal::{EndedCause, Event};
@@ -21,7 +21,7 @@ fn ended_cause(cause: EndedCause, deleted: bool) -> EndedCause
 impl<H: Drop> Scribe<H> {
     /// Tells that a message is sent.
     fn tell_sent(&mut self, sending: Sending) -> Result<(), NoMemory>
-        ensures tells { OnOk result (Tells self.old self.new (sent_event self.old.me sending ∷ [])) }
+        ensures tells { OnOk result (TellsMore self.old self.new (sent_event self.old.me sending ∷ [])) }
         ensures own { OnOk result ((held : H → HoldAt) → KeepsOwn held self.old self.new) }
     {
         let w = u64::from(self.me());
@@ -39,7 +39,7 @@ impl<H: Drop> Scribe<H> {
 
     /// Tells one thing that a call of spools led to.
     fn tell_fact(&mut self, cause: EndedCause, fact: Fact) -> Result<(), NoMemory>
-        ensures tells { OnOk result (Tells self.old self.new (told self.old.me (next_of self.old.outboxes) (fact_deed self.old.me cause fact ∷ []))) }
+        ensures tells { OnOk result (TellsMore self.old self.new (told self.old.me (next_of self.old.outboxes) (fact_deed self.old.me cause fact ∷ []))) }
         ensures own { OnOk result ((held : H → HoldAt) → KeepsOwn held self.old self.new) }
     {
         let w = u64::from(self.me());
@@ -57,7 +57,7 @@ impl<H: Drop> Scribe<H> {
 
     /// Tells what a call of spools led to, one thing behind the other. Whoever is ended by it is ended with this cause, but for deletions.
     pub fn tell_facts(&mut self, cause: EndedCause, facts: List<Fact>) -> Result<(), NoMemory>
-        ensures tells { OnOk result (Tells self.old self.new (told self.old.me (next_of self.old.outboxes) (facts_deeds self.old.me cause facts))) }
+        ensures tells { OnOk result (TellsMore self.old self.new (told self.old.me (next_of self.old.outboxes) (facts_deeds self.old.me cause facts))) }
         ensures own { OnOk result ((held : H → HoldAt) → KeepsOwn held self.old self.new) }
     {
         for fact in facts.into_vec() {

@@ -8,7 +8,7 @@ ghost use Rattle.nc_outbox.specs.Box.{first_packet};
 ghost use Rattle.nc_outbox.specs.Outboxes.{next_of, packets_of, outbox_of, IsGranted, AreOwn};
 ghost use Rattle.nc_scribe.specs.Kinds.{is_aside};
 ghost use Rattle.nc_scribe.specs.Story.{sent_on};
-ghost use Rattle.nc_scribe.specs.Scribe.{new_scribe, made_event, Tells, KeepsOwn};
+ghost use Rattle.nc_scribe.specs.Scribe.{new_scribe, made_event, TellsMore, KeepsOwn};
 
 use nc_alert::{Outgoing, Packet};
 use nc_journal::Event;
@@ -46,7 +46,8 @@ fn make_into<H: Drop>(
     ensures events { OnOk result (events.new ≡ events.old ++ made_event me (next_of outboxes.old) outgoing ∷ []) }
     ensures next { OnOk result (next_of outboxes.new ≡ next_after (next_of outboxes.old) (made_event me (next_of outboxes.old) outgoing ∷ [])) }
     ensures waits { OnOk result (outbox_of outboxes.new ≡ sent_on (outbox_of outboxes.old) (made_event me (next_of outboxes.old) outgoing ∷ [])) }
-    ensures own { OnOk result ((held : H → HoldAt) → IfSome (grant_of outgoing.alert) (IsGranted held me) → AreOwn held me outboxes.old → AreOwn held me outboxes.new) }
+    ensures own { OnOk result ((held : H → HoldAt)
+        → IfSome (grant_of outgoing.alert) (IsGranted held me) → AreOwn held me outboxes.old → AreOwn held me outboxes.new) }
 {
     let event = outboxes.post(me, outgoing)?;
     events.push(event)?;
@@ -76,7 +77,7 @@ impl<H: Drop> Scribe<H> {
     /// Tells an event that makes nothing.
     pub fn tell(&mut self, event: Event) -> Result<(), NoMemory>
         requires { is_aside event ≡ true }
-        ensures tells { OnOk result (Tells self.old self.new (event ∷ [])) }
+        ensures tells { OnOk result (TellsMore self.old self.new (event ∷ [])) }
         ensures own { OnOk result ((held : H → HoldAt) → KeepsOwn held self.old self.new) }
     {
         self.events.push(event)?;
@@ -85,8 +86,9 @@ impl<H: Drop> Scribe<H> {
 
     /// Makes an alert to a worker. `NoMemory` comes also where no number of packets to it is left.
     pub fn make(&mut self, outgoing: Outgoing<H>) -> Result<(), NoMemory>
-        ensures tells { OnOk result (Tells self.old self.new (made_event self.old.me (next_of self.old.outboxes) outgoing ∷ [])) }
-        ensures own { OnOk result ((held : H → HoldAt) → IfSome (grant_of outgoing.alert) (IsGranted held self.old.me) → KeepsOwn held self.old self.new) }
+        ensures tells { OnOk result (TellsMore self.old self.new (made_event self.old.me (next_of self.old.outboxes) outgoing ∷ [])) }
+        ensures own { OnOk result ((held : H → HoldAt)
+            → IfSome (grant_of outgoing.alert) (IsGranted held self.old.me) → KeepsOwn held self.old self.new) }
     {
         make_into(self.me, &mut self.events, &mut self.outboxes, outgoing)?;
         Ok(())

@@ -7,7 +7,7 @@ ghost use Rattle.nc_owner_laws.specs.Weave.{makes, weave};
 ghost use Rattle.nc_slots.specs.Slots.{HoldAt};
 ghost use Rattle.nc_outbox.specs.Outboxes.{next_of};
 ghost use Rattle.nc_scribe.specs.Kinds.{is_grant, AreAside};
-ghost use Rattle.nc_scribe.specs.Scribe.{Tells, KeepsOwn, AllGranted};
+ghost use Rattle.nc_scribe.specs.Scribe.{TellsMore, KeepsOwn, AllGranted};
 ghost use Rattle.nc_scribe.specs.Weaving.{TellsNext, TellsPart};
 
 use crate::scribe::Scribe;
@@ -37,7 +37,7 @@ impl<H: Drop> Scribe<H> {
 
     /// Makes some alerts, one behind the other.
     fn make_all(&mut self, mut alerts: VecDeque<Outgoing<H>>) -> Result<(), NoMemory>
-        ensures tells { OnOk result (Tells self.old self.new (makes self.old.me (next_of self.old.outboxes) (out_lines (alerts.items)))) }
+        ensures tells { OnOk result (TellsMore self.old self.new (makes self.old.me (next_of self.old.outboxes) (out_lines (alerts.items)))) }
         ensures own { OnOk result ((held : H → HoldAt) → AllGranted held self.old.me (alerts.items) → KeepsOwn held self.old self.new) }
     {
         while let Some(outgoing) = alerts.pop_front() {
@@ -68,7 +68,7 @@ impl<H: Drop> Scribe<H> {
     /// Tells what an owner did: its events, behind each grant the making of the alert that carries it, and the other alerts last.
     pub fn weave(&mut self, done: Done<H>) -> Result<(), NoMemory>
         requires { AreAside done.events.events }
-        ensures tells { OnOk result (Tells self.old self.new (weave self.old.me (next_of self.old.outboxes) done.events.events (out_lines done.alerts))) }
+        ensures tells { OnOk result (TellsMore self.old self.new (weave self.old.me (next_of self.old.outboxes) done.events.events (out_lines done.alerts))) }
         ensures own { OnOk result ((held : H → HoldAt) → AllGranted held self.old.me done.alerts → KeepsOwn held self.old self.new) }
     {
         let mut alerts = VecDeque::from_vec(done.alerts.into_vec());

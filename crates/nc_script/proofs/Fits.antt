@@ -10,7 +10,7 @@ use Rattle.nc_script.specs.declared.line.Line.{Line}
 use Rattle.nc_script.specs.declared.line.Line.TheVariants.{Blank}
 use Rattle.nc_script.specs.Word.{Word}
 use Rattle.nc_script.specs.Judge.{says, chosen}
-use Rattle.nc_script.specs.Part.{names, distinct_names, worker, IsStart}
+use Rattle.nc_script.specs.Part.{names, distinct_names, worker, SpellsStart}
 use Rattle.nc_script.specs.Line.{two_workers, command_line, is_blank, full_line}
 use Rattle.nc_script.specs.Script.{FitsNames, AreChannels, Keeps, LinesFit}
 use Rattle.nc_script.proofs.Parts.{some_name}
@@ -24,12 +24,12 @@ both_below workers text p is =
     let kept = is.2.2.2 in
     rw kept.2.2 (below workers is.2.0 kept.0 is.0.0 kept.1, below workers is.2.2.0 kept.2.0 is.0.1 kept.2.1)
 
-start_fits : (list : List (List ℕ)) (text : List ℕ) (begin : Start) → IsStart (length list) text begin → FitsNames list begin
+start_fits : (list : List (List ℕ)) (text : List ℕ) (begin : Start) → SpellsStart (length list) text begin → FitsNames list begin
 start_fits list text Oldest is = tt
 start_fits list text Newest is = tt
 start_fits list text (Given cursor) is = is.1
 
-are_channels : (word begin_word : Word) (cs list : List (List ℕ)) (begin : Start) → (names word).Says cs → (distinct_names word cs).Says list → IsStart (length list) begin_word.bytes begin → AreChannels list begin
+are_channels : (word begin_word : Word) (cs list : List (List ℕ)) (begin : Start) → (names word).Says cs → (distinct_names word cs).Says list → SpellsStart (length list) begin_word.bytes begin → AreChannels list begin
 are_channels word begin_word cs list begin named is starts =
     let some = subst (λ (l : List (List ℕ)). 0 < length l) (sym named.0) (some_name word) in
     record {

@@ -1,5 +1,6 @@
 -- A line says one thing, or breaks one rule at one place.
 use Rattle.std.proofs.Common.{◌≡◌, ℕ, ◌+◌, ◌*◌, ◌==◌, if◌then◌else◌, List, [], ◌∷◌, length, get_or, sym, ap, ◌∙◌, refl}
+use Rattle.nc_types.specs.Id.{latest_clock}
 use Rattle.nc_script.specs.declared.command.Command.{Command}
 use Rattle.nc_script.specs.declared.command.Command.TheVariants.{Clock, Reap, Post, Poll, Carry, Take, Settle, Drop, Info}
 use Rattle.nc_types.specs.Unquote.{OneMeaning, OnePlace}
@@ -87,7 +88,7 @@ clock_line_sure : (workers : ℕ) (text : List ℕ) → IsSure (clock_line worke
 clock_line_sure workers text =
     next_sure _ _ (two_words_sure text) (λ p.
     next_sure _ _ (number_sure greatest_number p.0) (λ n.
-    next_sure _ _ (number_sure 4102444800 p.1) (λ t.
+    next_sure _ _ (number_sure latest_clock p.1) (λ t.
     next_sure _ _ (worker_sure workers p.0 n) (λ w. says_sure _))))
 
 reap_line_sure : (workers : ℕ) (text : List ℕ) → IsSure (reap_line workers text)

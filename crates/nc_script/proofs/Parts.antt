@@ -14,7 +14,7 @@ use Rattle.nc_ident.specs.Refusal.{IsRefusedId}
 use Rattle.nc_ident.proofs.Pieces.{one_cursor}
 use Rattle.nc_script.specs.Word.{Word, placed}
 use Rattle.nc_script.specs.Judge.{Judged, IsSure}
-use Rattle.nc_script.specs.Part.{IsBody, IsNoBody, IsName, IsFirstBad, names_in, number, worker, body, name, names, distinct_names, list, start, start_fault, IsStart}
+use Rattle.nc_script.specs.Part.{IsBody, IsNoBody, IsName, IsFirstBad, names_in, number, worker, body, name, names, distinct_names, list, start, start_fault, SpellsStart}
 use Rattle.nc_script.proofs.Sure.{must_sure, next_sure}
 
 pub number_sure : (limit : ℕ) (word : Word) → IsSure (number limit word)
@@ -96,7 +96,7 @@ begins_with_o (b ∷ text) = b == 111
 apart_words : codes "oldest" ≡ codes "newest" → ⊥
 apart_words same = let first : true ≡ false = ap begins_with_o same in cc
 
-one_start : (n : ℕ) (text : List ℕ) (a b : Start) → IsStart n text a → IsStart n text b → a ≡ b
+one_start : (n : ℕ) (text : List ℕ) (a b : Start) → SpellsStart n text a → SpellsStart n text b → a ≡ b
 one_start n text Oldest Oldest h k = refl
 one_start n text Oldest Newest h k = absurd (apart_words (sym h ∙ k))
 one_start n text Oldest (Given cursor) h k = absurd (oldest_is_no_id cursor (subst (λ (t : List ℕ). SpellsId t cursor) h k.0))
@@ -110,14 +110,14 @@ one_start n text (Given cursor) (Given other) h k = ap Given (one_cursor text cu
 pub start_sure : (n : ℕ) (word : Word) → IsSure (start n word)
 start_sure n word = must_sure 9 word.at _ (one_start n word.bytes)
 
-no_start : (n : ℕ) (text : List ℕ) (a : CursorAt) → SpellsId text a → length a.tags ≢ n → text ≢ codes "oldest" → text ≢ codes "newest" → (s : Start) → IsStart n text s → ⊥
+no_start : (n : ℕ) (text : List ℕ) (a : CursorAt) → SpellsId text a → length a.tags ≢ n → text ≢ codes "oldest" → text ≢ codes "newest" → (s : Start) → SpellsStart n text s → ⊥
 no_start n text a spelled other old new Oldest is = old is
 no_start n text a spelled other old new Newest is = new is
 no_start n text a spelled other old new (Given cursor) is =
     let same = ap (λ (c : CursorAt). length c.tags) (one_cursor text a cursor spelled is.0) in
     other (same ∙ is.1)
 
-no_id : (n : ℕ) (text : List ℕ) → ((a : CursorAt) → SpellsId text a → ⊥) → text ≢ codes "oldest" → text ≢ codes "newest" → (s : Start) → IsStart n text s → ⊥
+no_id : (n : ℕ) (text : List ℕ) → ((a : CursorAt) → SpellsId text a → ⊥) → text ≢ codes "oldest" → text ≢ codes "newest" → (s : Start) → SpellsStart n text s → ⊥
 no_id n text none old new Oldest is = old is
 no_id n text none old new Newest is = new is
 no_id n text none old new (Given cursor) is = none cursor is.0

@@ -1,6 +1,7 @@
 -- What each line of a script says, and which rule it breaks where.
 use Rattle.std.specs.Prelude.{◌≡◌, ℕ, ◌+◌, ◌<◌, ◌≤◌, List, [], ◌∷◌, ◌++◌, codes, length, ◌==◌, Bool, true, drop}
 use Rattle.std.specs.List.{before_first}
+use Rattle.nc_types.specs.Id.{latest_clock}
 use Rattle.nc_script.specs.declared.command.Command.{Command}
 use Rattle.nc_script.specs.declared.command.Command.TheVariants.{Clock as ClockCommand, Reap as ReapCommand, Post as PostCommand, Poll as PollCommand, Carry as CarryCommand, Take as TakeCommand, Settle as SettleCommand, Drop as DropCommand, Info as InfoCommand}
 use Rattle.nc_script.specs.declared.line.Line.{Line}
@@ -88,7 +89,7 @@ abbrev pub clock_line : ℕ → List ℕ → Judge Line
 clock_line workers text =
     next (two_words text) (λ p.
     next (number greatest_number p.0) (λ n.
-    next (number 4102444800 p.1) (λ t.
+    next (number latest_clock p.1) (λ t.
     next (worker workers p.0 n) (λ w.
     says (Clock w t)))))
 

@@ -98,14 +98,14 @@ abbrev pub list : Word → Judge (List (List ℕ))
 list word = next (names word) (distinct_names word)
 
 -- where a subscriber of so many channels starts: before the oldest message, behind the newest, or behind the given ids
-abbrev pub IsStart : ℕ → List ℕ → Start → Type 0
-IsStart n text Oldest = text ≡ codes "oldest"
-IsStart n text Newest = text ≡ codes "newest"
-IsStart n text (Given cursor) = SpellsId text cursor × (length cursor.tags ≡ n)
+abbrev pub SpellsStart : ℕ → List ℕ → Start → Type 0
+SpellsStart n text Oldest = text ≡ codes "oldest"
+SpellsStart n text Newest = text ≡ codes "newest"
+SpellsStart n text (Given cursor) = SpellsId text cursor × (length cursor.tags ≡ n)
 
 -- rule 9: a start can be read
 abbrev pub start : ℕ → Word → Judge Start
-start n word = must 9 word.at (IsStart n word.bytes)
+start n word = must 9 word.at (SpellsStart n word.bytes)
 
 -- the fault of a word that is refused as an id
 abbrev pub start_fault : ℕ → IdRefusal → LineFault

@@ -1,5 +1,6 @@
 -- Laws of lines, what a line keeps, and the place of a subscriber's number.
 use Rattle.std.specs.Prelude.{◌≡◌, ℕ, ◌<◌, ◌≤◌, List, ◌∷◌, [], length}
+use Rattle.nc_types.specs.Id.{latest_clock}
 use Rattle.nc_types.specs.Channel.{AreDistinct}
 use Rattle.nc_types.specs.declared.start.Start.{Start}
 use Rattle.nc_types.specs.declared.start.Start.TheVariants.{Oldest, Newest, Given}
@@ -28,7 +29,7 @@ pub record AreChannels (names : List (List ℕ)) (start : Start) : Type 0 where
 -- what a line keeps, for so many workers: its workers are there, and its numbers and its list are within their limits
 abbrev pub Keeps : ℕ → Line → Type 0
 Keeps workers Blank = Unit {0}
-Keeps workers (Clock w t) = (w < workers) × (t ≤ 4102444800)
+Keeps workers (Clock w t) = (w < workers) × (t ≤ latest_clock)
 Keeps workers (Reap w) = w < workers
 Keeps workers (Post w c body) = w < workers
 Keeps workers (Poll w k names start) = (w < workers) × AreChannels names start

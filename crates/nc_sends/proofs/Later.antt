@@ -1,13 +1,14 @@
 -- A send that was lawful when it was made stays so, and its fences too.
+use Rattle.std.specs.Prelude.{bytes_eq}
 use Rattle.std.proofs.Common.{◌≡◌, ◌⊎◌, inl, inr, ℕ, ◌≤◌, Bool, true, false, cond, List, [], ◌∷◌, ◌++◌, slice_get, Some, refl, sym, ap, ◌∙◌, subst, arith, append_assoc}
 use Rattle.std.specs.List.{AllByRecursion}
 use Rattle.std.specs.Cmp.Lexicographic.{same_text}
 use Rattle.nc_types.specs.Id.{Id, IsPast}
 use Rattle.nc_types.specs.Cursor.{moved, CursorAt, cursor_id}
-use Rattle.nc_types.specs.Channel.{owner_of, name_eq}
+use Rattle.nc_types.specs.Channel.{owner_of}
 use Rattle.nc_journal.specs.History.{Along, own}
 use Rattle.nc_journal.specs.Stamp.{floor_of, StampedAt, IsStamped}
-use Rattle.nc_journal.specs.Message.{Message, published, buffer, message_of}
+use Rattle.nc_journal.specs.Message.{Message, published, buffer, stored_message}
 use Rattle.nc_journal.specs.Standing.{Stage, Standing, stage_of}
 use Rattle.nc_journal.specs.Sending.{SentFrom, IsSpared, RestsOnLook, IsSentFrom, HasId, SentAt}
 use Rattle.nc_journal.specs.declared.event.Event.{Event}
@@ -47,9 +48,9 @@ fences_stay workers h f newer e older is = fenced_since workers newer e older (a
 
 -- the message that an event stores is past each published one of its channel
 pub stores_past : (workers : ℕ) (d : List ℕ) (id : Id) (e : Event) (h : List Event) → IsStamped workers h → StampedAt workers h e → HasId (published d h) id → AllByRecursion (λ m. IsPast m.id id) (published d (e ∷ []))
-stores_past workers d id (Stored w c new slot len exp kept members from r ct body) h stamped at there = by_name (name_eq c d) refl
+stores_past workers d id (Stored w c new slot len exp kept members from r ct body) h stamped at there = by_name (bytes_eq c d) refl
   where
-    by_name : (same : Bool) → name_eq c d ≡ same → AllByRecursion (λ m. IsPast m.id id) (cond same ([] ++ message_of new slot exp ct body ∷ []) [])
+    by_name : (same : Bool) → bytes_eq c d ≡ same → AllByRecursion (λ m. IsPast m.id id) (cond same ([] ++ stored_message new slot exp ct body ∷ []) [])
     by_name true is = (has_all (λ old. IsPast new old) (published d h) id (subst (λ (n : List ℕ). AllByRecursion (λ m. IsPast new m.id) (published n h)) (same_text c d (sym is)) (stored-past workers w c new h stamped at)) there, tt)
     by_name false is = tt
 stores_past workers d id e h stamped at there = tt

@@ -29,5 +29,6 @@ pub record SendsWell (workers w i : ℕ) (c : List ℕ) (id : Id) (list : List (
   pub taken : IsTakenFor workers w i c id looks list h
 
 abbrev pub SpoolsSend : Type 0
-SpoolsSend = (workers w : ℕ) (list : List (List ℕ)) (old : CursorAt) (rests : List Rest) (h : List Event) → Owners workers h → IsSpool workers w list old rests h
+SpoolsSend = (workers w : ℕ) (list : List (List ℕ)) (old : CursorAt) (rests : List Rest) (h : List Event) → Owners workers h
+    → IsSpool workers w list old rests h
     → (i : ℕ) (c : List ℕ) (id : Id) → slice_get list i ≡ Some c → IsChosen i id rests → SendsWell workers w i c id list old (map look_of rests) h

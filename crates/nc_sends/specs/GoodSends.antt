@@ -23,6 +23,7 @@ pub record IsGoodSend (workers : ℕ) (h : List Event) (e : Event) : Type 0 wher
 
 -- what a spool chooses to send is so for each of its subscribers
 abbrev pub ChoiceSends : Type 0
-ChoiceSends = (workers w k : ℕ) (list : List (List ℕ)) (once : Bool) (cur : CursorAt) (places : List Place) (h : List Event) → Owners workers h → SpoolHolds workers w list cur places h → stage_of k (own w h) ≡ Standing list once cur
+ChoiceSends = (workers w k : ℕ) (list : List (List ℕ)) (once : Bool) (cur : CursorAt) (places : List Place) (h : List Event) → Owners workers h
+    → SpoolHolds workers w list cur places h → stage_of k (own w h) ≡ Standing list once cur
     → (find : Find) → choice places ≡ Send find
     → IsGoodSend workers h (Sent w k find.place (slice_index_or list find.place []) find.id (moved cur find.place find.id) (map look_number places))

@@ -20,7 +20,8 @@ HasLookAnswer q (a ∷ l) = HasLookAnswer q l
 -- for one that stands with a list: the worker took the answer to each look from the owner of its channel,
 -- and the message is what the answer found, or that of a notice which it took behind the answer
 pub record IsTakenFor (workers w i : ℕ) (c : List ℕ) (id : Id) (looks : List ℕ) (list : List (List ℕ)) (h : List Event) : Type 0 where
-  pub answers : (j : ℕ) (d : List ℕ) (q : ℕ) → slice_get list j ≡ Some d → slice_get looks j ≡ Some q → HasLookAnswer q (received (owner_of workers d) w h)
+  pub answers : (j : ℕ) (d : List ℕ) (q : ℕ) → slice_get list j ≡ Some d → slice_get looks j ≡ Some q
+      → HasLookAnswer q (received (owner_of workers d) w h)
   pub message : (q : ℕ) → slice_get looks i ≡ Some q → CameBy q c id (received (owner_of workers c) w h)
 
 abbrev pub TakenFor : (workers w i : ℕ) → List ℕ → Id → List ℕ → List Event → Stage → Type 0

@@ -67,7 +67,8 @@ pub trait Slots {
         ensures message { IfOk result (λ hold. message_of (slot_at (slots self.old owner) slot) ≡ Some (held hold).message) }
         ensures err { OnErr result (slots self.new owner ≡ slots self.old owner) }
         ensures others { (o : ℕ) → o ≢ owner → slots self.new o ≡ slots self.old o }
-        ensures one_hold { exact ≡ true → OnOk result (holds self.new owner ≡ slice_set (holds self.old owner) slot (slice_index (holds self.old owner) slot + 1)) }
+        ensures one_hold { exact ≡ true → OnOk result (holds self.new owner
+            ≡ slice_set (holds self.old owner) slot (slice_index (holds self.old owner) slot + 1)) }
         ensures no_hold { exact ≡ true → OnErr result (holds self.new owner ≡ holds self.old owner) }
         ensures other_holds { exact ≡ true → (o : ℕ) → o ≢ owner → holds self.new o ≡ holds self.old o };
 

@@ -1,6 +1,5 @@
 -- Subscribers that go, by themselves or with a channel.
-use Rattle.std.specs.Prelude.{ℕ, true, false, not, List, Option, None, Some, filter, fold, find}
-use Rattle.nc_types.specs.Channel.{name_eq}
+use Rattle.std.specs.Prelude.{ℕ, true, false, not, List, Option, None, Some, filter, fold, find, bytes_eq}
 use Rattle.nc_spool.specs.declared.board.Board.{Board}
 use Rattle.nc_spool_state.specs.Spool.{SpoolAt, has_reader, without_reader}
 use Rattle.nc_spool_state.specs.Shelf.{without_first, with_read_spool}
@@ -10,7 +9,7 @@ use Rattle.nc_spool.specs.Hear.{emptied}
 
 -- the names without one of them
 abbrev pub other_names : List ℕ → List (List ℕ) → List (List ℕ)
-other_names c names = filter (λ name. not (name_eq name c)) names
+other_names c names = filter (λ name. not (bytes_eq name c)) names
 
 -- the list of a subscriber that starts
 abbrev pub start_names : Option StartingAt → Option (List (List ℕ))

@@ -25,9 +25,9 @@ use Rattle.nc_spool.specs.Decide.{fence_look, fence_looks, fenced_places, delive
 use Rattle.nc_spool.specs.Hear.{looked_again}
 use Rattle.nc_spool.specs.Arrive.{joined}
 use Rattle.nc_spool.specs.Newest.{edges_from, asked_edge, edge_behind, edges_behind}
-use Rattle.nc_spool_laws.specs.Closed.{IsClosed, out}
+use Rattle.nc_spool_laws.proofs.Closing.{IsClosed, out}
 use Rattle.nc_spool_laws.specs.Guards.{IsFind}
-use Rattle.nc_spool_laws.specs.Standing.{AnyLast, AnyKey}
+use Rattle.nc_spool_laws.specs.Attended.{AnyLast, AnyKey}
 use Rattle.nc_spool_laws.specs.Knowing.{Knows, IsKnowing, AllWere, FactWas, BoardKnows, BesideKnows, IsRight, IsGood}
 use Rattle.nc_spool_laws.proofs.Knowledge as knowledge
 use Rattle.nc_spool_laws.proofs.Lists.{all-append, all-changed}

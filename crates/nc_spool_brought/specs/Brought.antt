@@ -14,7 +14,7 @@ use Rattle.nc_spool_state.specs.Key.{name_at}
 use Rattle.nc_spool_state.specs.Spool.{SpoolAt, place_at}
 use Rattle.nc_spool_state.specs.Starting.{StartingAt}
 use Rattle.nc_spool_laws.specs.Closed.{IsKept}
-use Rattle.nc_spool_laws.specs.Standing.{AnyLast, AnyKey}
+use Rattle.nc_spool_laws.specs.Attended.{AnyLast, AnyKey}
 
 -- a message of an id with its grant by an owner
 abbrev pub news_of : Id → ℕ → ℕ → News

@@ -16,7 +16,7 @@ use Rattle.nc_spool_state.specs.Key.{name_at, id_at}
 use Rattle.nc_spool_state.specs.Spool.{SpoolAt, place_at}
 use Rattle.nc_spool_state.specs.Starting.{StartingAt}
 use Rattle.nc_spool_laws.specs.Closed.{IsKept}
-use Rattle.nc_spool_laws.specs.Standing.{AnyLast, AnyKey}
+use Rattle.nc_spool_laws.specs.Attended.{AnyLast, AnyKey}
 use Rattle.nc_spool_brought.specs.Brought.{news_of}
 
 -- `first` is the number that the first look of a call draws; `Was` says which looks were made before: number, channel, id;

@@ -3,7 +3,7 @@ use Rattle.std.proofs.Common.{◌≡◌, suc, ◌≤◌, Bool, true, false, not,
 use Rattle.std.specs.List.{AllByRecursion}
 use Rattle.nc_spool_state.specs.declared.spool.Reader.{Reader}
 use Rattle.nc_spool_state.specs.Spool.{is_reader, place_above}
-use Rattle.nc_spool_laws.specs.Standing.{AnyNews, AnyAnswer, KeepsAll}
+use Rattle.nc_spool_laws.specs.Attended.{AnyNews, AnyAnswer, KeepsAll}
 use Rattle.nc_spool_laws.specs.Readers.{IsUpTo, AreClimbing, Climbs}
 use Rattle.nc_spool_laws.proofs.Lists.{all-changed, all-insert}
 use Rattle.nc_spool_laws.proofs.Guarding.{is-below, not-below}

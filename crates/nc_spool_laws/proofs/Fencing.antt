@@ -19,8 +19,8 @@ use Rattle.nc_spool.specs.declared.board.Board.{Board}
 use Rattle.nc_spool.specs.Board.{told, looked, asked_from, fresh_places}
 use Rattle.nc_spool.specs.Decide.{fenced, fence_look, fence_looks, fenced_places}
 use Rattle.nc_spool.specs.Newest.{fresh_edges, behind_edge, edges_from, asked_edge, edge_behind, edges_behind, behind_edges}
-use Rattle.nc_spool_laws.specs.Closed.{IsClosed}
-use Rattle.nc_spool_laws.specs.Standing.{AnyKey, AnyFind}
+use Rattle.nc_spool_laws.proofs.Closing.{IsClosed}
+use Rattle.nc_spool_laws.specs.Attended.{AnyKey, AnyFind}
 use Rattle.nc_spool_laws.specs.Fences.{FactFenced, PlaceFenced, SpoolFenced, EdgeFenced, StartFenced, BoardFenced, BesideFenced, ApartFenced, NewsFenced, AnswerFenced, LastFenced, KeepsFences}
 use Rattle.nc_spool_laws.proofs.Lists.{all-append, all-insert, all-without, all-found, all-set}
 use Rattle.nc_spool_laws.proofs.Guarding.{is-below, not-below}

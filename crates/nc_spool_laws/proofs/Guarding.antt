@@ -23,11 +23,11 @@ NotOlder time (Nothing quiet) = Unit {0}
 NotOlder time (Found q id owner g) = time ≤ id.time
 
 -- a message is the best one before the places, or the one at a place, where those before it are younger
-abbrev IsFirst : Option Find → ℕ → List Place → Find → ℕ → Type 0
-IsFirst best j places find i = (find.place ≡ j + i) × IsFind find (get_or places i no_place) × ((k : ℕ) → k < i → IsYounger find.id.time (get_or places k no_place)) × ((f : Find) → best ≡ Some f → find.id.time < f.id.time)
+abbrev IsSoonestAt : Option Find → ℕ → List Place → Find → ℕ → Type 0
+IsSoonestAt best j places find i = (find.place ≡ j + i) × IsFind find (get_or places i no_place) × ((k : ℕ) → k < i → IsYounger find.id.time (get_or places k no_place)) × ((f : Find) → best ≡ Some f → find.id.time < f.id.time)
 
 abbrev Origin : Option Find → ℕ → List Place → Find → Type 0
-Origin best j places find = (best ≡ Some find) ⊎ ((i : ℕ) × IsFirst best j places find i)
+Origin best j places find = (best ≡ Some find) ⊎ ((i : ℕ) × IsSoonestAt best j places find i)
 
 record IsSoonest (best : Option Find) (j : ℕ) (places : List Place) (find : Find) : Type 0 where
   least : AllByRecursion (NotOlder find.id.time) places
@@ -35,7 +35,7 @@ record IsSoonest (best : Option Find) (j : ℕ) (places : List Place) (find : Fi
   origin : Origin best j places find
 
 -- one place more in front that isn't the message's
-later : (best was : Option Find) (j : ℕ) (p : Place) (places : List Place) (find : Find) (i : ℕ) → IsYounger find.id.time p → ((f : Find) → best ≡ Some f → find.id.time < f.id.time) → IsFirst was (j + 1) places find i → IsFirst best j (p ∷ places) find (suc i)
+later : (best was : Option Find) (j : ℕ) (p : Place) (places : List Place) (find : Find) (i : ℕ) → IsYounger find.id.time p → ((f : Find) → best ≡ Some f → find.id.time < f.id.time) → IsSoonestAt was (j + 1) places find i → IsSoonestAt best j (p ∷ places) find (suc i)
 later best was j p places find i younger below o = (omega (arith, o.0), o.1, by, below)
   where
     by : (k : ℕ) → k < suc i → IsYounger find.id.time (get_or (p ∷ places) k no_place)
@@ -51,7 +51,7 @@ pass best j p places find older younger s = record { least = (older, s.least); b
     by (inr o) = inr (suc o.0, later best best j p places find o.0 younger (λ f e. o.1.3 f e) o.1)
 
 -- the message at the first place
-here : (best : Option Find) (j q : ℕ) (id : Id) (owner g : ℕ) (places : List Place) (find : Find) → find_at j (Found q id owner g) ≡ Some find → ((f : Find) → best ≡ Some f → id.time < f.id.time) → IsFirst best j (Found q id owner g ∷ places) find 0
+here : (best : Option Find) (j q : ℕ) (id : Id) (owner g : ℕ) (places : List Place) (find : Find) → find_at j (Found q id owner g) ≡ Some find → ((f : Find) → best ≡ Some f → id.time < f.id.time) → IsSoonestAt best j (Found q id owner g ∷ places) find 0
 here best j q id owner g places find e below =
     let first : Find = record { place = j; id = id; owner = owner; g = g } in
     let same : first ≡ find = cc in

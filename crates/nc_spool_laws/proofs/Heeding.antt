@@ -1,6 +1,6 @@
 -- After a notice, and after a removal, no spool with the channel rests on an older answer.
 use Rattle.std.proofs.Common.{◌≡◌, ◌≢◌, ◌⊎◌, inl, inr, ℕ, zero, suc, ◌+◌, ◌<◌, Bool, true, false, cond, ltb, ◌||◌, List, [], ◌∷◌, refl, sym, ap, subst, ◌∙◌, Option, Some, None, length, set, get_or, arith}
-use Rattle.std.specs.Prelude.{fold, map}
+use Rattle.std.specs.Prelude.{fold, map, bytes_eq}
 use Rattle.std.specs.List.{AllByRecursion, list_any, position_or_len, filter}
 use Rattle.std.specs.Ordering.{is_eq}
 use Rattle.std.specs.declared.cmp.Ordering.{Ordering}
@@ -8,7 +8,6 @@ use Rattle.std.specs.declared.cmp.Ordering.TheVariants.{Less, Equal, Greater}
 use Rattle.std.proofs.lemmas.Grind.{get_or-set_at}
 use Rattle.std.proofs.lemmas.Cmp.{tied_itself}
 use Rattle.nc_types.specs.Id.{is_past}
-use Rattle.nc_types.specs.Channel.{name_eq}
 use Rattle.nc_spool_state.specs.declared.place.Place.{Place}
 use Rattle.nc_spool_state.specs.declared.place.Place.TheVariants.{Asked, Nothing, Found}
 use Rattle.nc_spool_state.specs.declared.hear.News.{News}
@@ -21,8 +20,8 @@ use Rattle.nc_spool.specs.Decide.{fenced, fenced_places, fence_look, decided}
 use Rattle.nc_spool_state.specs.Hear.{found_by, notice_says, gone_says}
 use Rattle.nc_spool.specs.Hear.{looked_again, heeded, noticed, noticed_at, noticed_by, noticed_in, noticed_place, emptied, emptied_at, emptied_by, emptied_in, emptied_place}
 use Rattle.nc_spool.specs.Depart.{member_gone, gone}
-use Rattle.nc_spool_laws.specs.Closed.{IsSending, out}
-use Rattle.nc_spool_laws.specs.Standing.{AnyLast, AnyKey, AnyNews, AnyAnswer, AnyFind, InAll, BesideAll, ApartAll, IsWhole}
+use Rattle.nc_spool_laws.proofs.Closing.{IsSending, out}
+use Rattle.nc_spool_laws.specs.Attended.{AnyLast, AnyKey, AnyNews, AnyAnswer, AnyFind, InAll, BesideAll, ApartAll, IsWhole}
 use Rattle.nc_spool_laws.specs.Order.{IsOther, AreAscending, Ascends, AscendsBeside, AscendsApart}
 use Rattle.nc_spool_laws.specs.Hearing.{has_answer, Heard, AreHeard}
 use Rattle.nc_spool_laws.proofs.Lists.{all-insert, all-without, all-found, none-without, found-passes, any-below, all-changed}
@@ -37,7 +36,7 @@ found-within n m i true lt e = let same : n ≡ i = cc in grind arith
 found-within n m i false lt e = absurd cc
 
 pub place-within : (c : List ℕ) (list : List (List ℕ)) (j : ℕ) → place_of c list ≡ Some j → j < length list
-place-within c list j e = found-within (position_or_len (λ name. name_eq name c) list) (length list) j (ltb (position_or_len (λ name. name_eq name c) list) (length list)) refl e
+place-within c list j e = found-within (position_or_len (λ name. bytes_eq name c) list) (length list) j (ltb (position_or_len (λ name. bytes_eq name c) list) (length list)) refl e
 
 pub fresh-unanswered : (n : ℕ) (names : List (List ℕ)) (j : ℕ) → j < length names → has_answer (get_or (fresh_places n names) j no_place) ≡ false
 fresh-unanswered n [] j l = absurd (omega arith)
@@ -178,9 +177,9 @@ within-found : (n m i : ℕ) (b : Bool) → ltb n m ≡ b → cond b (Some n) No
 within-found n m i true lt e = grind arith
 within-found n m i false lt e = absurd cc
 
-no-place : (c : List ℕ) (list : List (List ℕ)) (j : ℕ) → list_any (λ name. name_eq name c) list ≡ false → place_of c list ≡ Some j → ⊥
+no-place : (c : List ℕ) (list : List (List ℕ)) (j : ℕ) → list_any (λ name. bytes_eq name c) list ≡ false → place_of c list ≡ Some j → ⊥
 no-place c list j none e =
-    let some = any-below (λ name. name_eq name c) list (within-found (position_or_len (λ name. name_eq name c) list) (length list) j (ltb (position_or_len (λ name. name_eq name c) list) (length list)) refl e) in
+    let some = any-below (λ name. bytes_eq name c) list (within-found (position_or_len (λ name. bytes_eq name c) list) (length list) j (ltb (position_or_len (λ name. bytes_eq name c) list) (length list)) refl e) in
     cc
 
 pending-more : (c : List ℕ) (key : KeyAt) (keys : List KeyAt) (s : SpoolAt) → Hears c keys s → Hears c (key ∷ keys) s

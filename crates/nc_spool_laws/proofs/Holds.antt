@@ -20,8 +20,8 @@ use Rattle.nc_spool.specs.Board.{told, looked, asked_from}
 use Rattle.nc_spool.specs.Decide.{fence_look, fence_looks}
 use Rattle.nc_spool.specs.Newest.{edges_from, asked_edge, edge_behind, edges_behind}
 use Rattle.nc_spool_state.specs.Kept.{place_uses, spool_uses, is_used, is_grant, is_before, is_kept, is_idle, place_of_grant, with_hold}
-use Rattle.nc_spool_laws.specs.Closed.{IsClosed}
-use Rattle.nc_spool_laws.specs.Standing.{AnyLast, AnyKey, PlaceHeld, IsHeld, NewsHeld, AnswerHeld}
+use Rattle.nc_spool_laws.proofs.Closing.{IsClosed}
+use Rattle.nc_spool_laws.specs.Attended.{AnyLast, AnyKey, PlaceHeld, IsHeld, NewsHeld, AnswerHeld}
 use Rattle.nc_spool_laws.specs.Guards.{IsFind}
 use Rattle.nc_spool_laws.specs.Holding.{FactHeld, BoardHeld, BesideHeld, ApartHeld, FindHeld, KeepsHeld, IsBefore, AreRising, HoldsRule}
 use Rattle.nc_spool_laws.proofs.Lists.{all-insert, all-without, all-found, all-append, all-changed}

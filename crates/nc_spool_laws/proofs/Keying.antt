@@ -15,8 +15,8 @@ use Rattle.nc_spool_state.specs.Starting.{StartingAt}
 use Rattle.nc_spool.specs.Board.{asked_from}
 use Rattle.nc_spool.specs.Decide.{moved_key, fence_looks}
 use Rattle.nc_spool.specs.Newest.{fresh_edges, edges_from, behind_edges, edge_behind, edges_behind}
-use Rattle.nc_spool_laws.specs.Closed.{IsClosed}
-use Rattle.nc_spool_laws.specs.Standing.{AnyNews, AnyAnswer, AnyLast}
+use Rattle.nc_spool_laws.proofs.Closing.{IsClosed}
+use Rattle.nc_spool_laws.specs.Attended.{AnyNews, AnyAnswer, AnyLast}
 use Rattle.nc_spool_laws.specs.Keys.{IsFitting, SpoolFits, StartFits, AllFit, FitsBeside, FitsApart, FindFits, KeepsKeys}
 use Rattle.nc_spool_laws.proofs.Lists.{all-append, all-insert, all-without, all-found}
 use Rattle.nc_spool_laws.proofs.Same.{asked-shelf, asked-starts, fences-shelf, fences-starts, edges-shelf, edges-starts, behinds-shelf, behinds-starts}

@@ -1,12 +1,11 @@
 -- Each call keeps what the places know.
 use Rattle.std.proofs.Common.{◌≡◌, ◌≢◌, ℕ, zero, suc, ◌+◌, ◌<◌, Bool, true, false, cond, not, ◌&&◌, ltb, List, [], ◌∷◌, ◌++◌, refl, sym, ap, subst, ◌∙◌, Option, Some, None, length, set, get_or, length-set, nat_lt, nat_eq, ◌==◌, arith}
-use Rattle.std.specs.Prelude.{slice_index_or}
+use Rattle.std.specs.Prelude.{slice_index_or, bytes_eq}
 use Rattle.std.specs.List.{AllByRecursion, position, position_or_len}
 use Rattle.std.proofs.lemmas.Bool.Decides.{nat_tests}
 use Rattle.std.proofs.lemmas.Grind.{get_or-set_at}
 use Rattle.std.proofs.lemmas.List.{get_or-set_other}
 use Rattle.nc_types.specs.Id.{Id, is_past}
-use Rattle.nc_types.specs.Channel.{name_eq}
 use Rattle.nc_spool.specs.declared.fact.Fact.{Fact}
 use Rattle.nc_spool_state.specs.declared.place.Quiet.{Quiet}
 use Rattle.nc_spool_state.specs.declared.place.Place.{Place}
@@ -25,8 +24,8 @@ use Rattle.nc_spool.specs.Board.{looked, asked_from, fresh_places, fresh_spool}
 use Rattle.nc_spool.specs.Decide.{fenced, fenced_places, fence_look, fence_looks}
 use Rattle.nc_spool_state.specs.Hear.{found_by}
 use Rattle.nc_spool.specs.Newest.{edges_from, asked_edge, edge_behind, edges_behind}
-use Rattle.nc_spool_laws.specs.Closed.{RestsOn, IsNothing, IsClosed}
-use Rattle.nc_spool_laws.specs.Standing.{AnyLast, AnyKey, AnyFind}
+use Rattle.nc_spool_laws.proofs.Closing.{RestsOn, IsNothing, IsClosed}
+use Rattle.nc_spool_laws.specs.Attended.{AnyLast, AnyKey, AnyFind}
 use Rattle.nc_spool_laws.specs.Knowing.{Knows, IsKnowing, AllWere, FactWas, BoardKnows, BesideKnows, ApartKnows, Means, IsRight, IsGood, KeepsKnowing}
 use Rattle.nc_spool_laws.proofs.Lists.{all-insert, all-without, all-found}
 use Rattle.nc_spool_laws.proofs.Same.{asked-shelf, fences-shelf, edges-shelf, behinds-shelf}
@@ -70,15 +69,15 @@ and-second false b e = absurd cc
 same-number : (a b : ℕ) → nat_eq a b ≡ true → a ≡ b
 same-number a b e = grind (arith, nat_tests)
 
-pub same-name : (a b : List ℕ) → name_eq a b ≡ true → a ≡ b
+pub same-name : (a b : List ℕ) → bytes_eq a b ≡ true → a ≡ b
 same-name [] [] e = refl
 same-name [] (y ∷ b) e = absurd cc
 same-name (x ∷ a) [] e = absurd cc
 same-name (x ∷ a) (y ∷ b) e =
-    ap (λ (n : ℕ). n ∷ a) (same-number x y (and-first (nat_eq x y) (name_eq a b) e)) ∙ ap (λ (l : List ℕ). y ∷ l) (same-name a b (and-second (nat_eq x y) (name_eq a b) e))
+    ap (λ (n : ℕ). n ∷ a) (same-number x y (and-first (nat_eq x y) (bytes_eq a b) e)) ∙ ap (λ (l : List ℕ). y ∷ l) (same-name a b (and-second (nat_eq x y) (bytes_eq a b) e))
 
 pub own-name : (c : List ℕ) (key : KeyAt) (j : ℕ) → place_of c key.list ≡ Some j → name_at key j ≡ c
-own-name c key j e = same-name (name_at key j) c (position-there (λ name. name_eq name c) key.list j [] e)
+own-name c key j e = same-name (name_at key j) c (position-there (λ name. bytes_eq name c) key.list j [] e)
 
 module _ (Was : ℕ → List ℕ → Id → Type 0) (Rested : List ℕ → Id → Quiet → Type 0) (Came : List ℕ → Id → ℕ → News → Type 0) where
   abbrev Known : SpoolAt → Type 0

@@ -1,6 +1,7 @@
 pub mod Lists
 pub mod Same
 pub mod Waiting
+pub mod Closing
 pub mod Walk
 pub mod Local
 pub mod Totals

@@ -15,8 +15,8 @@ use Rattle.nc_spool_state.specs.Edge.{newest_time}
 use Rattle.nc_spool.specs.Board.{fresh_spool, fresh_places}
 use Rattle.nc_spool.specs.Decide.{fenced, fenced_places, fence_look}
 use Rattle.nc_spool_state.specs.Hear.{found_by}
-use Rattle.nc_spool_laws.specs.Closed.{IsClosed}
-use Rattle.nc_spool_laws.specs.Standing.{AnyLast, AnyKey, AnyFind, InAll, BesideAll, ApartAll, KeepsAll, IsAttended, IsWhole, AnyNews, AnyAnswer, PlaceHeld, IsHeld, NewsHeld, AnswerHeld}
+use Rattle.nc_spool_laws.proofs.Closing.{IsClosed}
+use Rattle.nc_spool_laws.specs.Attended.{AnyLast, AnyKey, AnyFind, InAll, BesideAll, ApartAll, KeepsAll, IsAttended, IsWhole, AnyNews, AnyAnswer, PlaceHeld, IsHeld, NewsHeld, AnswerHeld}
 use Rattle.nc_spool_laws.proofs.Lists.{all-insert, all-without, all-found, length-insert_one}
 use Rattle.nc_spool_laws.proofs.Same.{asked-shelf, fences-shelf, edges-shelf, behinds-shelf}
 use Rattle.nc_spool_laws.proofs.Walk.{all-kept}

@@ -21,8 +21,8 @@ use Rattle.nc_spool.specs.Decide.{fenced_places, fence_looks}
 use Rattle.nc_spool_state.specs.Hear.{found_by}
 use Rattle.nc_spool.specs.Hear.{looked_again}
 use Rattle.nc_spool.specs.Newest.{fresh_edges, edges_from, asked_edge, behind_edges, edges_behind, parked}
-use Rattle.nc_spool_laws.specs.Closed.{IsClosed, out, out_start}
-use Rattle.nc_spool_laws.specs.Standing.{AnyLast, AnyKey, AnyNews, AnyAnswer, AnyFind}
+use Rattle.nc_spool_laws.proofs.Closing.{IsClosed, out, out_start}
+use Rattle.nc_spool_laws.specs.Attended.{AnyLast, AnyKey, AnyNews, AnyAnswer, AnyFind}
 use Rattle.nc_spool_laws.specs.Numbers.{one, total, look_at, edge_at, looks_of, edges_of, awaited, IsOnce, AreApart, SpoolApart, StartApart, KeepsApart}
 use Rattle.nc_spool_laws.proofs.Totals.{total-insert, total-push, total-without, total-set, total-same}
 use Rattle.nc_spool_laws.proofs.Same.{asked-shelf, fences-shelf, edges-shelf, behinds-shelf, asked-starts, fences-starts, edges-starts, behinds-starts}

@@ -11,8 +11,8 @@ use Rattle.nc_spool_state.specs.Key.{KeyAt, cursor_cmp, key_cmp}
 use Rattle.nc_spool_state.specs.Spool.{SpoolAt, is_of}
 use Rattle.nc_spool_state.specs.Shelf.{place_before, with_spool, without_first}
 use Rattle.nc_spool_state.specs.Edge.{newest_time}
-use Rattle.nc_spool_laws.specs.Closed.{IsClosed}
-use Rattle.nc_spool_laws.specs.Standing.{AnyLast, AnyKey, AnyNews, AnyAnswer, AnyFind}
+use Rattle.nc_spool_laws.proofs.Closing.{IsClosed}
+use Rattle.nc_spool_laws.specs.Attended.{AnyLast, AnyKey, AnyNews, AnyAnswer, AnyFind}
 use Rattle.nc_spool_laws.specs.Order.{IsBelow, IsOther, AreAscending, Ascends, AscendsBeside, AscendsApart, KeepsOrder}
 use Rattle.nc_spool_laws.proofs.Lists.{all-insert, all-without, all-changed, all-found}
 use Rattle.nc_spool_laws.proofs.Same.{asked-shelf, fences-shelf, edges-shelf, behinds-shelf}

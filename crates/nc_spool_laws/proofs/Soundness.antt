@@ -16,7 +16,7 @@ use Rattle.nc_spool_state.specs.Kept.{is_idle, with_hold}
 use Rattle.nc_spool.specs.Calls.{SpoolsAt, board_of, after, news_of, with_found, arrive_board, arrive_after, answer_board, answer_after, edge_board, edge_after, notice_board, notice_after, gone_board, gone_after, depart_board, depart_after, without_idle}
 use Rattle.nc_spool_laws.specs.Resting.{AllRest}
 use Rattle.nc_spool_laws.specs.Order.{AreAscending}
-use Rattle.nc_spool_laws.specs.Standing.{IsWhole, IsAttended, IsHeld, AnswerHeld}
+use Rattle.nc_spool_laws.specs.Attended.{IsWhole, IsAttended, IsHeld, AnswerHeld}
 use Rattle.nc_spool_laws.specs.Numbers.{one, AreApart}
 use Rattle.nc_spool_laws.specs.Tally.{stands, ends, tally}
 use Rattle.nc_spool_laws.specs.Holding.{FactHeld, BoardHeld, AreRising}

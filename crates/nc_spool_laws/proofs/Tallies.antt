@@ -35,7 +35,7 @@ use Rattle.nc_spool.specs.Hear.{looked_again, heeded, noticed_at, noticed_by, no
 use Rattle.nc_spool.specs.Depart.{other_names, names_with, names_by, start_names, left, left_by, departed, departed_by, member_gone, member_gone_by, gone}
 use Rattle.nc_spool.specs.Arrive.{oldest_cursor, joined, started_by, arrived}
 use Rattle.nc_spool.specs.Newest.{begun, parked, fresh_edges, behind_edges, edges_from, asked_edge, edge_behind, edges_behind, second_by, answered_all, went_on, edge_heard, edge_heard_at, edge_answered, edge_answered_by}
-use Rattle.nc_spool_laws.specs.Closed.{out, out_start}
+use Rattle.nc_spool_laws.proofs.Closing.{out, out_start}
 use Rattle.nc_spool_laws.specs.Numbers.{one, total}
 use Rattle.nc_spool_laws.specs.Tally.{reader_at, readers_of, start_at, stands, end_at, ends, tally, KeepsTally}
 use Rattle.nc_spool_laws.proofs.Lists.{none-without, found-passes}

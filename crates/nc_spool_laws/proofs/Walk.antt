@@ -30,7 +30,8 @@ use Rattle.nc_spool.specs.Hear.{heeded, noticed_at, noticed_by, noticed_in, noti
 use Rattle.nc_spool.specs.Depart.{other_names, names_with, left, left_by, departed, departed_by, member_gone, member_gone_by, gone}
 use Rattle.nc_spool.specs.Arrive.{oldest_cursor, joined, started_by, arrived}
 use Rattle.nc_spool.specs.Newest.{begun, parked, second_by, answered_all, went_on, edge_heard, edge_heard_at, edge_answered, edge_answered_by}
-use Rattle.nc_spool_laws.specs.Closed.{out, out_start, first_key, RestsOn, IsSending, IsClosed, IsKept}
+use Rattle.nc_spool_laws.specs.Closed.{first_key, IsKept}
+use Rattle.nc_spool_laws.proofs.Closing.{out, out_start, RestsOn, IsSending, IsClosed}
 use Rattle.nc_spool_laws.proofs.Lists.{none-without}
 
 fence-unasked : (places : List Place) (time : ℕ) → choice places ≡ Fence time → is_any_asked places ≡ false

@@ -16,7 +16,7 @@ use Rattle.nc_spool.specs.declared.fact.Fact.{Fact}
 use Rattle.nc_spool.specs.declared.fact.Fact.TheVariants.{Out, Started, Sent, Ended}
 use Rattle.nc_spool.specs.declared.board.Board.{Board}
 use Rattle.nc_spool_laws.specs.Closed.{IsKept}
-use Rattle.nc_spool_laws.specs.Standing.{AnyKey, AnyFind}
+use Rattle.nc_spool_laws.specs.Attended.{AnyKey, AnyFind}
 
 -- `Is` says of a time that it may be a fence
 module _ (Is : ℕ → Type 0) where

@@ -10,7 +10,7 @@ use Rattle.nc_spool_state.specs.Spool.{SpoolAt, place_at}
 use Rattle.nc_spool.specs.Hear.{noticed}
 use Rattle.nc_spool.specs.Depart.{gone}
 use Rattle.nc_spool_laws.specs.Order.{AreAscending}
-use Rattle.nc_spool_laws.specs.Standing.{IsWhole}
+use Rattle.nc_spool_laws.specs.Attended.{IsWhole}
 
 -- a place rests on an answer of "nothing"
 abbrev pub has_answer : Place → Bool

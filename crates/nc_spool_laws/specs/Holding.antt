@@ -11,7 +11,7 @@ use Rattle.nc_spool_state.specs.Shelf.{without_first}
 use Rattle.nc_spool_state.specs.Starting.{StartingAt}
 use Rattle.nc_spool_state.specs.Kept.{is_before, is_kept, is_used, is_idle, with_hold}
 use Rattle.nc_spool_laws.specs.Closed.{IsKept}
-use Rattle.nc_spool_laws.specs.Standing.{AnyLast, AnyKey, IsHeld, NewsHeld, AnswerHeld}
+use Rattle.nc_spool_laws.specs.Attended.{AnyLast, AnyKey, IsHeld, NewsHeld, AnswerHeld}
 
 module _ {H : Type 0} (kept : List (Held H)) where
   -- the message that is sent has a grant whose hold is kept

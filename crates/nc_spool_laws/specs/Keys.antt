@@ -8,7 +8,7 @@ use Rattle.nc_spool_state.specs.Key.{KeyAt}
 use Rattle.nc_spool_state.specs.Spool.{SpoolAt}
 use Rattle.nc_spool_state.specs.Starting.{StartingAt}
 use Rattle.nc_spool_laws.specs.Closed.{IsKept}
-use Rattle.nc_spool_laws.specs.Standing.{AnyNews, AnyAnswer, AnyLast}
+use Rattle.nc_spool_laws.specs.Attended.{AnyNews, AnyAnswer, AnyLast}
 
 -- a key's names are distinct, and its cursor has a tag for each
 pub record IsFitting (key : KeyAt) : Type 0 where

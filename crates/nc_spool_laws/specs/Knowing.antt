@@ -15,7 +15,7 @@ use Rattle.nc_spool_state.specs.Key.{name_at, id_at}
 use Rattle.nc_spool_state.specs.Spool.{SpoolAt, place_at}
 use Rattle.nc_spool_state.specs.Starting.{StartingAt}
 use Rattle.nc_spool_laws.specs.Closed.{IsKept}
-use Rattle.nc_spool_laws.specs.Standing.{AnyLast, AnyKey, AnyFind}
+use Rattle.nc_spool_laws.specs.Attended.{AnyLast, AnyKey, AnyFind}
 
 -- `Was` says which looks were made: number, channel, id; `Rested` says what an answer of "nothing" to a look of a channel behind an id is;
 -- `Came` says what a message is that was found there, resting on the look of a number

@@ -1,6 +1,6 @@
 pub mod Resting
 pub mod Closed
-pub mod Standing
+pub mod Attended
 pub mod Numbers
 pub mod Order
 pub mod Hearing

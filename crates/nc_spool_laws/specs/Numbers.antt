@@ -8,7 +8,7 @@ use Rattle.nc_spool_state.specs.Spool.{SpoolAt}
 use Rattle.nc_spool_state.specs.Edge.{is_edge}
 use Rattle.nc_spool_state.specs.Starting.{StartingAt}
 use Rattle.nc_spool_laws.specs.Closed.{IsKept}
-use Rattle.nc_spool_laws.specs.Standing.{AnyLast, AnyKey, AnyNews, AnyAnswer, AnyFind}
+use Rattle.nc_spool_laws.specs.Attended.{AnyLast, AnyKey, AnyNews, AnyAnswer, AnyFind}
 
 -- 1 where something is so, and else 0
 abbrev pub one : Bool → ℕ

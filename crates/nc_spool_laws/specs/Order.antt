@@ -8,7 +8,7 @@ use Rattle.nc_spool_state.specs.Key.{KeyAt, key_cmp}
 use Rattle.nc_spool_state.specs.Spool.{SpoolAt}
 use Rattle.nc_spool_state.specs.Starting.{StartingAt}
 use Rattle.nc_spool_laws.specs.Closed.{IsKept}
-use Rattle.nc_spool_laws.specs.Standing.{AnyLast, AnyKey, AnyNews, AnyAnswer, AnyFind}
+use Rattle.nc_spool_laws.specs.Attended.{AnyLast, AnyKey, AnyNews, AnyAnswer, AnyFind}
 
 -- a key is below that of a spool
 abbrev pub IsBelow : KeyAt → SpoolAt → Type 0

@@ -9,7 +9,7 @@ use Rattle.nc_spool.specs.Calls.{SpoolsAt, new_spools, board_of, with_found, arr
 use Rattle.nc_spool_state.specs.Kept.{with_hold}
 use Rattle.nc_spool_laws.specs.Resting.{AllRest}
 use Rattle.nc_spool_laws.specs.Order.{AreAscending}
-use Rattle.nc_spool_laws.specs.Standing.{IsWhole, IsAttended, IsHeld}
+use Rattle.nc_spool_laws.specs.Attended.{IsWhole, IsAttended, IsHeld}
 use Rattle.nc_spool_laws.specs.Numbers.{AreApart}
 use Rattle.nc_spool_laws.specs.Tally.{stands}
 use Rattle.nc_spool_laws.specs.Holding.{FactHeld, AreRising}

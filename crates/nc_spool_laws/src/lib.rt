@@ -3,7 +3,7 @@
 //!
 //! The laws speak of one call after the other: of what stands between two calls ([`standing`], [`counting`], [`resting`],
 //! [`holding`], [`sound`]), of what each place knows ([`knowing`]), and of the rules by which spools are entered, ask and send
-//! ([`asking`], [`sending`]). One induction over the small steps carries them (`specs/Closed`). Below is `nc_spool`.
+//! ([`asking`], [`sending`]). One induction over the small steps carries them (`proofs/Closing`). Below is `nc_spool`.
 #![tactic(auto)]
 
 pub mod asking;

@@ -5,7 +5,7 @@ ghost use Rattle.nc_spool_laws.specs.Hearing.{AreHeard};
 ghost use Rattle.nc_spool_laws.specs.Keys.{KeepsKeys};
 ghost use Rattle.nc_spool_laws.specs.Order.{EqualKeysAreOne, KeepsOrder};
 ghost use Rattle.nc_spool_laws.specs.Readers.{Climbs};
-ghost use Rattle.nc_spool_laws.specs.Standing.{KeepsAll, AnyNews, AnyAnswer, NewsHeld, AnswerHeld, IsAttended, IsWhole, IsHeld};
+ghost use Rattle.nc_spool_laws.specs.Attended.{KeepsAll, AnyNews, AnyAnswer, NewsHeld, AnswerHeld, IsAttended, IsWhole, IsHeld};
 
 /// Each call leaves someone in each spool.
 pub fn stay_attended()

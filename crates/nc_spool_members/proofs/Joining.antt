@@ -1,8 +1,8 @@
 -- Nobody joins a channel but who comes with it, once.
 use Rattle.std.proofs.Common.{◌≡◌, ℕ, ◌+◌, ◌≤◌, Bool, true, false, cond, List, [], ◌∷◌, Option, Some, None, refl, ◌∙◌, arith, ◌==◌, ◌&&◌}
-use Rattle.std.specs.Prelude.{fold}
+use Rattle.std.specs.Prelude.{fold, bytes_eq}
 use Rattle.std.specs.Option.{option_map}
-use Rattle.nc_types.specs.Channel.{AreDistinct, name_eq, owner_of}
+use Rattle.nc_types.specs.Channel.{AreDistinct, owner_of}
 use Rattle.nc_types.specs.declared.start.Start.{Start}
 use Rattle.nc_spool_state.specs.declared.spool.Reader.{Reader}
 use Rattle.nc_spool_state.specs.declared.edge.Edge.TheVariants.{Known}
@@ -38,7 +38,7 @@ module _ (c : List ℕ) (k : ℕ) where
       by : (ask : Ask) → joins_by c k ask ≡ join_weight c k ask
       by (Look number d after fence) = refl
       by (asks.Edge number n d fence) = refl
-      by (Join d n) = same (name_eq d c && (n == k))
+      by (Join d n) = same (bytes_eq d c && (n == k))
       by (Part d n) = refl
   counted (Started n cursor ∷ facts) = omega (arith, counted facts)
   counted (Sent s ∷ facts) = omega (arith, counted facts)

@@ -18,7 +18,7 @@ use Rattle.nc_spool.specs.Board.{looked, asked_from, parted, shelved, standing, 
 use Rattle.nc_spool.specs.Decide.{fence_look, fence_looks}
 use Rattle.nc_spool.specs.Arrive.{joined}
 use Rattle.nc_spool.specs.Newest.{edges_from, asked_edge, edge_behind, edges_behind}
-use Rattle.nc_spool_laws.specs.Closed.{out}
+use Rattle.nc_spool_laws.proofs.Closing.{out}
 
 -- `read` reads some facts, and nothing that is asked
 module _ {X : Type 0} (read : List Fact → X) (quiet : (fs : List Fact) (asking : Asking) → read (fs ++ Out asking ∷ []) ≡ read fs) where

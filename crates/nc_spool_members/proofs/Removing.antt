@@ -1,9 +1,8 @@
 -- A channel is removed: its members are ended, and part from their other channels.
 use Rattle.std.proofs.Common.{◌≡◌, ℕ, ◌+◌, ◌≤◌, Bool, true, false, cond, not, ◌||◌, List, [], ◌∷◌, refl, sym, ap, ◌∙◌, Option, Some, None, find, filter, length, arith, ◌==◌}
-use Rattle.std.specs.Prelude.{fold}
+use Rattle.std.specs.Prelude.{fold, bytes_eq}
 use Rattle.std.specs.Cmp.Lexicographic.{same_text}
 use Rattle.std.proofs.lemmas.Bool.Decides.{nat_tests}
-use Rattle.nc_types.specs.Channel.{name_eq}
 use Rattle.nc_spool_state.specs.declared.spool.Reader.{Reader}
 use Rattle.nc_spool_state.specs.Spool.{SpoolAt, is_reader, is_among, has_reader, without_reader, place_at, is_of}
 use Rattle.nc_spool_state.specs.Shelf.{spool_of, without_first, place_before, with_spool, with_read_spool, keys_with}
@@ -13,7 +12,7 @@ use Rattle.nc_spool.specs.declared.fact.Fact.TheVariants.{Ended}
 use Rattle.nc_spool.specs.declared.board.Board.{Board}
 use Rattle.nc_spool.specs.Board.{told, ended}
 use Rattle.nc_spool.specs.Depart.{other_names, names_with, left, left_by, member_gone, member_gone_by, gone}
-use Rattle.nc_spool_laws.specs.Closed.{out, out_start}
+use Rattle.nc_spool_laws.proofs.Closing.{out, out_start}
 use Rattle.nc_spool_laws.proofs.Lists.{found-passes}
 use Rattle.nc_spool_state.specs.declared.place.Place.{Place}
 use Rattle.nc_spool_state.specs.declared.place.Place.TheVariants.{Asked, Nothing, Found}
@@ -76,25 +75,25 @@ module _ (k : ℕ) where
 
 -- ---- the names beside the removed one
 
-named-others : (chan c : List ℕ) (names : List (List ℕ)) → name_eq c chan ≡ false → named chan (other_names c names) ≡ named chan names
+named-others : (chan c : List ℕ) (names : List (List ℕ)) → bytes_eq c chan ≡ false → named chan (other_names c names) ≡ named chan names
 named-others chan c [] other = refl
-named-others chan c (name ∷ names) other = by (name_eq name c) refl (named-others chan c names other)
+named-others chan c (name ∷ names) other = by (bytes_eq name c) refl (named-others chan c names other)
   where
-    by : (t : Bool) → name_eq name c ≡ t → named chan (other_names c names) ≡ named chan names → named chan (cond (not t) (name ∷ other_names c names) (other_names c names)) ≡ one (name_eq name chan) + named chan names
-    by true was rest = omega (arith, rest, ap one (ap (λ (x : List ℕ). name_eq x chan) (same_text name c (sym was)) ∙ other))
+    by : (t : Bool) → bytes_eq name c ≡ t → named chan (other_names c names) ≡ named chan names → named chan (cond (not t) (name ∷ other_names c names) (other_names c names)) ≡ one (bytes_eq name chan) + named chan names
+    by true was rest = omega (arith, rest, ap one (ap (λ (x : List ℕ). bytes_eq x chan) (same_text name c (sym was)) ∙ other))
     by false was rest = omega (arith, rest)
 
 named-none : (c : List ℕ) (names : List (List ℕ)) → named c (other_names c names) ≡ 0
 named-none c [] = refl
-named-none c (name ∷ names) = by (name_eq name c) refl (named-none c names)
+named-none c (name ∷ names) = by (bytes_eq name c) refl (named-none c names)
   where
-    by : (t : Bool) → name_eq name c ≡ t → named c (other_names c names) ≡ 0 → named c (cond (not t) (name ∷ other_names c names) (other_names c names)) ≡ 0
+    by : (t : Bool) → bytes_eq name c ≡ t → named c (other_names c names) ≡ 0 → named c (cond (not t) (name ∷ other_names c names) (other_names c names)) ≡ 0
     by true was rest = rest
     by false was rest = omega (arith, rest, ap one was)
 
 -- ---- another channel
 
-module _ (chan : List ℕ) (k : ℕ) (g : Ask → ℕ) (weighs : Weighs chan k g) (c : List ℕ) (other : name_eq c chan ≡ false) where
+module _ (chan : List ℕ) (k : ℕ) (g : Ask → ℕ) (weighs : Weighs chan k g) (c : List ℕ) (other : bytes_eq c chan ≡ false) where
   other_gone-scales : (j : ℕ) (b : Board) → stands k b ≤ 1 → scales chan k g weighs (member_gone c b j) ≡ scales chan k g weighs b
   other_gone-scales j b few = by (names_with j b) refl
     where

@@ -40,7 +40,7 @@ use Rattle.nc_spool.specs.Depart.{other_names, names_with, names_by, start_names
 use Rattle.nc_spool.specs.Arrive.{oldest_cursor, joined, started_by, arrived}
 use Rattle.nc_spool.specs.Newest.{begun, parked, fresh_edges, behind_edges, edges_from, edges_behind, second_by, answered_all, went_on, edge_heard, edge_heard_at, edge_answered, edge_answered_by}
 use Rattle.nc_spool.specs.Calls.{SpoolsAt, board_of, news_of, arrive_board}
-use Rattle.nc_spool_laws.specs.Closed.{out as without, out_start}
+use Rattle.nc_spool_laws.proofs.Closing.{out as without, out_start}
 use Rattle.nc_spool_laws.specs.Numbers.{one, total}
 use Rattle.nc_spool_laws.specs.Tally.{reader_at, readers_of, start_at, stands}
 use Rattle.nc_spool_laws.proofs.Lists.{all-append, all-insert, all-without, all-found, none-without, found-passes}

@@ -32,7 +32,7 @@ use Rattle.nc_spool.specs.Depart.{other_names, names_with, left, left_by, member
 use Rattle.nc_spool.specs.Arrive.{oldest_cursor, joined, arrived}
 use Rattle.nc_spool.specs.Newest.{begun, edge_answered, edge_answered_by}
 use Rattle.nc_spool.specs.Calls.{board_of, news_of}
-use Rattle.nc_spool_laws.specs.Closed.{out, out_start}
+use Rattle.nc_spool_laws.proofs.Closing.{out, out_start}
 use Rattle.nc_spool_laws.proofs.Same.{asked-starts, parted-starts, joined-starts, fences-starts}
 use Rattle.nc_spool_members.specs.Starts.{IsKnownStart, IsAmong, KeepStarts}
 

@@ -1,10 +1,10 @@
 -- What calls tell the owners: the members of a channel are those who stand with it.
 use Rattle.std.proofs.Common.{◌≡◌, ◌≢◌, ℕ, zero, suc, ◌+◌, ◌≤◌, Bool, true, false, cond, not, ◌||◌, ◌&&◌, List, [], ◌∷◌, refl, sym, ap, ◌∙◌, subst, arith, ◌==◌}
-use Rattle.std.specs.Prelude.{fold}
+use Rattle.std.specs.Prelude.{fold, bytes_eq}
 use Rattle.std.specs.List.{AllByRecursion, list_any}
 use Rattle.std.specs.Option.{option_map}
 use Rattle.std.specs.Cmp.Lexicographic.{same_text}
-use Rattle.nc_types.specs.Channel.{name_eq, owner_of, AreDistinct}
+use Rattle.nc_types.specs.Channel.{owner_of, AreDistinct}
 use Rattle.nc_types.specs.declared.start.Start.{Start}
 use Rattle.nc_spool_state.specs.declared.spool.Reader.{Reader}
 use Rattle.nc_spool_state.specs.declared.edge.Edge.TheVariants.{Known}
@@ -53,7 +53,7 @@ some-one false = refl
 
 some-named : (c : List ℕ) (names : List (List ℕ)) → some (named c names) ≡ is_in c names
 some-named c [] = refl
-some-named c (name ∷ names) = some-plus (one (name_eq name c)) (named c names) ∙ ap (λ b. b || some (named c names)) (some-one (name_eq name c)) ∙ ap (λ b. name_eq name c || b) (some-named c names)
+some-named c (name ∷ names) = some-plus (one (bytes_eq name c)) (named c names) ∙ ap (λ b. b || some (named c names)) (some-one (bytes_eq name c)) ∙ ap (λ b. bytes_eq name c || b) (some-named c names)
 
 some-all : {X : Type 0} (f : X → ℕ) (test : X → Bool) → ((x : X) → some (f x) ≡ test x) → (xs : List X) → some (total f xs) ≡ list_any test xs
 some-all f test each [] = refl
@@ -102,17 +102,17 @@ module _ (c : List ℕ) (k : ℕ) where
 
 not-named : (c : List ℕ) (names : List (List ℕ)) → AllByRecursion (λ other. other ≢ c) names → named c names ≡ 0
 not-named c [] a = refl
-not-named c (name ∷ names) a = by (name_eq name c) refl (not-named c names a.1)
+not-named c (name ∷ names) a = by (bytes_eq name c) refl (not-named c names a.1)
   where
-    by : (t : Bool) → name_eq name c ≡ t → named c names ≡ 0 → one t + named c names ≡ 0
+    by : (t : Bool) → bytes_eq name c ≡ t → named c names ≡ 0 → one t + named c names ≡ 0
     by true was rest = absurd (a.0 (same_text name c (sym was)))
     by false was rest = omega (arith, rest)
 
 pub named-once : (c : List ℕ) (names : List (List ℕ)) → AreDistinct names → named c names ≤ 1
 named-once c [] a = omega arith
-named-once c (name ∷ names) a = by (name_eq name c) refl (named-once c names a.1)
+named-once c (name ∷ names) a = by (bytes_eq name c) refl (named-once c names a.1)
   where
-    by : (t : Bool) → name_eq name c ≡ t → named c names ≤ 1 → one t + named c names ≤ 1
+    by : (t : Bool) → bytes_eq name c ≡ t → named c names ≤ 1 → one t + named c names ≤ 1
     by true was rest = omega (arith, not-named c names (subst (λ (x : List ℕ). AllByRecursion (λ other. other ≢ x) names) (same_text name c (sym was)) a.0))
     by false was rest = omega (arith, rest)
 
@@ -147,19 +147,19 @@ module _ (c : List ℕ) (k : ℕ) where
   part_weight (Look number d after fence) = 0
   part_weight (asks.Edge number n d fence) = 0
   part_weight (Join d n) = 0
-  part_weight (Part d n) = one (name_eq d c && (n == k))
+  part_weight (Part d n) = one (bytes_eq d c && (n == k))
 
   abbrev pub join_weight : Ask → ℕ
   join_weight (Look number d after fence) = 0
   join_weight (asks.Edge number n d fence) = 0
-  join_weight (Join d n) = one (name_eq d c && (n == k))
+  join_weight (Join d n) = one (bytes_eq d c && (n == k))
   join_weight (Part d n) = 0
 
   abbrev pub either_weight : Ask → ℕ
   either_weight (Look number d after fence) = 0
   either_weight (asks.Edge number n d fence) = 0
-  either_weight (Join d n) = one (name_eq d c && (n == k))
-  either_weight (Part d n) = one (name_eq d c && (n == k))
+  either_weight (Join d n) = one (bytes_eq d c && (n == k))
+  either_weight (Part d n) = one (bytes_eq d c && (n == k))
 
   pub weighs-parts : Weighs c k part_weight
   weighs-parts = record { look = λ number d after fence. refl; edge = λ number n d fence. refl; part = λ d n. refl }
@@ -216,8 +216,8 @@ module _ (c : List ℕ) (k : ℕ) where
           → member_told c k is (Out (record { to = o.to; ask = ask }) ∷ facts) ≡ cond (some (part_weight ask + parts facts)) false is
       by (Look number d after fence) none more = more is (omega (arith, none)) ∙ ap (λ t. cond t false is) (some-none (parts facts))
       by (asks.Edge number n d fence) none more = more is (omega (arith, none)) ∙ ap (λ t. cond t false is) (some-none (parts facts))
-      by (Join d n) none more = joining (name_eq d c && (n == k)) none more ∙ ap (λ t. cond t false is) (some-none (parts facts))
-      by (Part d n) none more = parting (name_eq d c && (n == k)) (omega (arith, none)) more
+      by (Join d n) none more = joining (bytes_eq d c && (n == k)) none more ∙ ap (λ t. cond t false is) (some-none (parts facts))
+      by (Part d n) none more = parting (bytes_eq d c && (n == k)) (omega (arith, none)) more
 
   -- where nothing parts, who joins is a member
   joined-members : (facts : List Fact) (is : Bool) → parts facts ≡ 0 → member_told c k is facts ≡ cond (some (joins facts)) true is
@@ -239,8 +239,8 @@ module _ (c : List ℕ) (k : ℕ) where
           → member_told c k is (Out (record { to = o.to; ask = ask }) ∷ facts) ≡ cond (some (join_weight ask + joins facts)) true is
       by (Look number d after fence) none more = more is (omega (arith, none)) ∙ ap (λ t. cond t true is) (some-none (joins facts))
       by (asks.Edge number n d fence) none more = more is (omega (arith, none)) ∙ ap (λ t. cond t true is) (some-none (joins facts))
-      by (Join d n) none more = joining (name_eq d c && (n == k)) (omega (arith, none)) more
-      by (Part d n) none more = parting (name_eq d c && (n == k)) none more ∙ ap (λ t. cond t true is) (some-none (joins facts))
+      by (Join d n) none more = joining (bytes_eq d c && (n == k)) (omega (arith, none)) more
+      by (Part d n) none more = parting (bytes_eq d c && (n == k)) none more ∙ ap (λ t. cond t true is) (some-none (joins facts))
 
   -- ---- the calls
 
@@ -269,7 +269,7 @@ module _ (c : List ℕ) (k : ℕ) where
       none : (t : Bool) → both b.facts ≡ cond t 0 0 + both b.facts
       none true = omega arith
       none false = omega arith
-  join-both n (d ∷ names) b = omega (arith, join-both n names (joined n b d), total-push (fact_weight either_weight) b.facts (Out (record { to = owner_of b.workers d; ask = Join d n })), more (n == k) (name_eq d c) (named c names))
+  join-both n (d ∷ names) b = omega (arith, join-both n names (joined n b d), total-push (fact_weight either_weight) b.facts (Out (record { to = owner_of b.workers d; ask = Join d n })), more (n == k) (bytes_eq d c) (named c names))
     where
       more : (t x : Bool) (m : ℕ) → cond t m 0 + one (x && t) ≡ cond t (one x + m) 0
       more true true m = omega arith

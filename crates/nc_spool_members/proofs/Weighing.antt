@@ -1,6 +1,6 @@
 -- Who comes stands with the channels of its list from then on, and who stands with one no longer parts from it.
 use Rattle.std.proofs.Common.{◌&&◌, ◌≡◌, ℕ, ◌+◌, ◌≤◌, Bool, true, false, cond, List, [], ◌∷◌, refl, sym, ap, ◌∙◌, Option, Some, None, find, length, arith, ◌==◌}
-use Rattle.std.specs.Prelude.{fold, slice_index_or}
+use Rattle.std.specs.Prelude.{fold, slice_index_or, bytes_eq}
 use Rattle.std.proofs.lemmas.Bool.Decides.{nat_tests}
 use Rattle.nc_types.specs.Id.{Id, is_past}
 use Rattle.nc_types.specs.Cursor.{CursorAt}
@@ -11,7 +11,7 @@ use Rattle.nc_spool.specs.declared.ask.Ask.{Ask}
 use Rattle.nc_spool.specs.declared.ask.Ask.TheVariants.{Look, Part}
 use Rattle.nc_spool.specs.declared.ask.Ask.TheVariants as asks
 use Rattle.nc_spool.specs.declared.fact.Fact.TheVariants.{Out, Started, Sent, Ended}
-use Rattle.nc_types.specs.Channel.{name_eq, owner_of}
+use Rattle.nc_types.specs.Channel.{owner_of}
 use Rattle.nc_spool_state.specs.declared.place.Quiet.{Quiet}
 use Rattle.nc_spool_state.specs.declared.place.Place.{Place}
 use Rattle.nc_spool_state.specs.declared.place.Place.TheVariants.{Asked}
@@ -38,7 +38,7 @@ use Rattle.nc_spool.specs.Hear.{looked_again, heeded, noticed_at, noticed_by, no
 use Rattle.nc_spool.specs.Depart.{names_with, names_by, start_names, left, left_by, departed, departed_by}
 use Rattle.nc_spool.specs.Arrive.{oldest_cursor, started_by}
 use Rattle.nc_spool.specs.Newest.{begun, parked, fresh_edges, behind_edges, edges_from, asked_edge, edge_behind, edges_behind, second_by, answered_all, went_on, edge_heard, edge_heard_at, edge_answered, edge_answered_by}
-use Rattle.nc_spool_laws.specs.Closed.{out, out_start}
+use Rattle.nc_spool_laws.proofs.Closing.{out, out_start}
 use Rattle.nc_spool_laws.specs.Numbers.{one, total}
 use Rattle.nc_spool_laws.specs.Tally.{readers_of, stands}
 use Rattle.nc_spool_laws.proofs.Lists.{none-without, found-passes}
@@ -58,7 +58,7 @@ fact_weight g (Ended n deleted) = 0
 pub record Weighs (chan : List ℕ) (k : ℕ) (g : Ask → ℕ) : Type 0 where
   pub look : (number : ℕ) (c : List ℕ) (after : Id) (fence : ℕ) → g (Look number c after fence) ≡ 0
   pub edge : (number n : ℕ) (c : List ℕ) (fence : ℕ) → g (asks.Edge number n c fence) ≡ 0
-  pub part : (c : List ℕ) (j : ℕ) → g (Part c j) ≡ one (name_eq c chan && (j == k))
+  pub part : (c : List ℕ) (j : ℕ) → g (Part c j) ≡ one (bytes_eq c chan && (j == k))
 
 module _ (chan : List ℕ) (k : ℕ) (g : Ask → ℕ) (weighs : Weighs chan k g) where
   -- what stands with a channel, and what is told of it
@@ -163,7 +163,7 @@ module _ (chan : List ℕ) (k : ℕ) (g : Ask → ℕ) (weighs : Weighs chan k g
       omega (arith, parked-scales st (edges_from r.k list b), same-scales b (edges_from r.k list b) (edges-shelf r.k list b) (edges-starts r.k list b) (edges-facts r.k list b))
   arrived-scales r list (starts.Given cursor) b = begun-scales r (record { list = list; cursor = cursor }) b
 
-  part-facts : (j : ℕ) (c : List ℕ) (b : Board) → total (fact_weight g) (parted j b c).facts ≡ one (name_eq c chan && (j == k)) + total (fact_weight g) b.facts
+  part-facts : (j : ℕ) (c : List ℕ) (b : Board) → total (fact_weight g) (parted j b c).facts ≡ one (bytes_eq c chan && (j == k)) + total (fact_weight g) b.facts
   part-facts j c b = omega (arith, total-push (fact_weight g) b.facts (Out (record { to = owner_of b.workers c; ask = Part c j })), weighs.part c j)
 
   one-more : (t : Bool) (x : Bool) (n : ℕ) → cond t n 0 + one (x && t) ≡ cond t (one x + n) 0
@@ -178,7 +178,7 @@ module _ (chan : List ℕ) (k : ℕ) (g : Ask → ℕ) (weighs : Weighs chan k g
       none : (t : Bool) → total (fact_weight g) b.facts ≡ cond t 0 0 + total (fact_weight g) b.facts
       none true = omega arith
       none false = omega arith
-  parted-facts j (c ∷ names) b = omega (arith, parted-facts j names (parted j b c), part-facts j c b, one-more (j == k) (name_eq c chan) (named chan names))
+  parted-facts j (c ∷ names) b = omega (arith, parted-facts j names (parted j b c), part-facts j c b, one-more (j == k) (bytes_eq c chan) (named chan names))
 
   pub ended-scales : (j : ℕ) (deleted : Bool) (names : List (List ℕ)) (b : Board) → scales (ended j deleted names b) ≡ cond (j == k) (named chan names) 0 + scales b
   ended-scales j deleted names b =

@@ -1,8 +1,8 @@
 -- How often a subscriber stands with a channel, through changes of spools.
+use Rattle.std.specs.Prelude.{bytes_eq}
 use Rattle.std.proofs.Common.{◌≡◌, ℕ, ◌+◌, ◌≤◌, Bool, true, false, cond, not, ◌||◌, List, [], ◌∷◌, refl, sym, ap, subst, length, arith, ◌==◌}
 use Rattle.std.specs.List.{list_any}
 use Rattle.std.proofs.lemmas.Bool.Decides.{nat_tests}
-use Rattle.nc_types.specs.Channel.{name_eq}
 use Rattle.nc_spool_state.specs.declared.spool.Reader.{Reader}
 use Rattle.nc_spool_state.specs.Spool.{SpoolAt, is_reader, has_reader, without, with_reader, without_reader, place_above}
 use Rattle.nc_spool_state.specs.Starting.{StartingAt}
@@ -13,7 +13,7 @@ use Rattle.nc_spool_laws.proofs.Totals.{total-insert}
 
 -- how often a list names a channel
 abbrev pub named : List ℕ → List (List ℕ) → ℕ
-named c names = total (λ name. one (name_eq name c)) names
+named c names = total (λ name. one (bytes_eq name c)) names
 
 module _ (c : List ℕ) (k : ℕ) where
   -- how often a subscriber with a list stands with it

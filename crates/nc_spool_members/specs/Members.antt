@@ -1,8 +1,8 @@
 -- Who stands with a channel, and what the calls of spools tell its owner.
-use Rattle.std.specs.Prelude.{◌≡◌, ℕ, ◌+◌, ◌≤◌, Bool, true, false, not, List, [], ◌∷◌, Option, if◌then◌else◌, fold, ◌==◌, ◌&&◌, ◌||◌}
+use Rattle.std.specs.Prelude.{◌≡◌, ℕ, ◌+◌, ◌≤◌, Bool, true, false, not, List, [], ◌∷◌, Option, if◌then◌else◌, fold, ◌==◌, ◌&&◌, ◌||◌, bytes_eq}
 use Rattle.std.specs.List.{list_any}
 use Rattle.nc_types.specs.Id.{Id}
-use Rattle.nc_types.specs.Channel.{AreDistinct, name_eq}
+use Rattle.nc_types.specs.Channel.{AreDistinct}
 use Rattle.nc_types.specs.declared.start.Start.{Start}
 use Rattle.nc_spool_state.specs.Key.{is_in}
 use Rattle.nc_spool_state.specs.Spool.{SpoolAt, has_channel, has_reader}
@@ -32,8 +32,8 @@ stands_with c k b = list_any (reads_with c k) b.shelf || list_any (begins_with c
 abbrev pub member_after : List ℕ → ℕ → Bool → Ask → Bool
 member_after c k is (Look number d after fence) = is
 member_after c k is (Edge number n d fence) = is
-member_after c k is (Join d n) = if name_eq d c && (n == k) then true else is
-member_after c k is (Part d n) = if name_eq d c && (n == k) then false else is
+member_after c k is (Join d n) = if bytes_eq d c && (n == k) then true else is
+member_after c k is (Part d n) = if bytes_eq d c && (n == k) then false else is
 
 -- only what is asked is heard
 abbrev pub member_by : List ℕ → ℕ → Bool → Fact → Bool
@@ -64,7 +64,7 @@ module _ {H : Type 0} (c : List ℕ) (k : ℕ) where
     pub edge_answer : (number floor : ℕ) (last : Id) → IsTold s (edge_facts number floor last s) (edge_after number floor last s)
     pub notice : (d : List ℕ) (found : Found H) → IsTold s (notice_facts d found s) (notice_after d found s)
     -- the removal of another channel
-    pub removal : (d members : List ℕ) → name_eq d c ≡ false → IsTold s (gone_facts d members s) (gone_after d members s)
+    pub removal : (d members : List ℕ) → bytes_eq d c ≡ false → IsTold s (gone_facts d members s) (gone_after d members s)
     -- the removal of the channel itself, which its owner knows: nothing is told, and those that it names don't stand with it any more
     pub own_removal : (members : List ℕ) (is : Bool) → member_told c k is (gone_facts c members s) ≡ is
     pub removed : (members : List ℕ) → stands_with c k (board_of (gone_after c members s)) ≡ not (is_named k members) && stands_with c k (board_of s)
@@ -80,7 +80,7 @@ TellMembers H = (c : List ℕ) (k : ℕ) (s : SpoolsAt H) → StandSingly s → 
 abbrev pub joins_by : List ℕ → ℕ → Ask → ℕ
 joins_by c k (Look number d after fence) = 0
 joins_by c k (Edge number n d fence) = 0
-joins_by c k (Join d n) = if name_eq d c && (n == k) then 1 else 0
+joins_by c k (Join d n) = if bytes_eq d c && (n == k) then 1 else 0
 joins_by c k (Part d n) = 0
 
 abbrev pub joins_told : List ℕ → ℕ → List Fact → ℕ

@@ -1,10 +1,10 @@
 -- What a start that asked for edges knows of them.
 use Rattle.std.proofs.Common.{◌≡◌, ◌≢◌, inl, inr, ℕ, suc, ◌+◌, ◌≤◌, Bool, true, false, cond, List, [], ◌∷◌, ◌++◌, length, refl, sym, ap, ◌∙◌, subst, arith, length-append}
-use Rattle.std.specs.Prelude.{◌&&◌, ◌==◌}
+use Rattle.std.specs.Prelude.{◌&&◌, ◌==◌, bytes_eq}
 use Rattle.std.proofs.lemmas.Bool.{eq-eqb}
 use Rattle.std.proofs.lemmas.List.{append-nil}
 use Rattle.std.proofs.lemmas.Cmp.{nat_list_eq_equiv}
-use Rattle.nc_types.specs.Channel.{owner_of, name_eq}
+use Rattle.nc_types.specs.Channel.{owner_of}
 use Rattle.nc_journal.specs.History.{own}
 use Rattle.nc_journal.specs.declared.event.Event.{Event}
 use Rattle.nc_journal.specs.declared.alert.AlertLine.{AlertLine}
@@ -22,7 +22,7 @@ use Rattle.nc_starts.proofs.Edges.{edges_stay, edge_adds}
 
 numbers_append : (k : ℕ) (c : List ℕ) (xs ys : List AlertLine) → edge_numbers k c (xs ++ ys) ≡ edge_numbers k c xs ++ edge_numbers k c ys
 numbers_append k c [] ys = refl
-numbers_append k c (lines.Edge number n d fence ∷ xs) ys = by ((n == k) && name_eq d c) (numbers_append k c xs ys)
+numbers_append k c (lines.Edge number n d fence ∷ xs) ys = by ((n == k) && bytes_eq d c) (numbers_append k c xs ys)
   where
     by : (b : Bool) → edge_numbers k c (xs ++ ys) ≡ edge_numbers k c xs ++ edge_numbers k c ys → cond b (number ∷ edge_numbers k c (xs ++ ys)) (edge_numbers k c (xs ++ ys)) ≡ cond b (number ∷ edge_numbers k c xs) (edge_numbers k c xs) ++ edge_numbers k c ys
     by true is = ap (λ (l : List ℕ). number ∷ l) is
@@ -34,7 +34,7 @@ taken_numbers w o k n c kind a h next = ap (edge_numbers k c) (received_more w o
 
 edge_self : (number k : ℕ) (c : List ℕ) (fence : ℕ) → edge_numbers k c (lines.Edge number k c fence ∷ []) ≡ number ∷ []
 edge_self number k c fence =
-    let test : ((k == k) && name_eq c c) ≡ true = rw (eq-eqb k k refl, nat_list_eq_equiv.refl c) refl in
+    let test : ((k == k) && bytes_eq c c) ≡ true = rw (eq-eqb k k refl, nat_list_eq_equiv.refl c) refl in
     ap (λ b. cond b (number ∷ []) []) test
 
 pub edges_follow : EdgesFollow
@@ -53,7 +53,7 @@ first_case true t x told f = record { later = x ∷ f.later; split = ap (λ (l :
 first_case false t x told f = f
 
 pub first_stays : FirstStays
-first_stays w k c t (Edged v q from number n d floor last) h f = first_case ((from == w) && ((n == k) && name_eq d c)) t (edge_told number floor last) (edges_of w k c h) f
+first_stays w k c t (Edged v q from number n d floor last) h f = first_case ((from == w) && ((n == k) && bytes_eq d c)) t (edge_told number floor last) (edges_of w k c h) f
 first_stays w k c t e h f = f
 
 -- ---- what a start knows

@@ -5,7 +5,7 @@ use Rattle.nc_spool_state.specs.declared.edge.Edge.{Edge}
 use Rattle.nc_spool_state.specs.declared.edge.Edge.TheVariants.{Awaited, Known}
 use Rattle.nc_spool_state.specs.Edge.{edge_tag, later, newest_time}
 use Rattle.nc_journal.specs.Newest.{greatest_time, tag_within}
-use Rattle.nc_starts.specs.Told.{edge_last, EdgesCursor}
+use Rattle.nc_starts.specs.EdgesTold.{edge_last, EdgesCursor}
 
 -- the greatest time, from a time on
 time_from : (time : ℕ) (edges : List Edge) → fold later time edges ≡ max time (greatest_time (map edge_last edges))

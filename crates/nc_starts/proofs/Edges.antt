@@ -1,9 +1,9 @@
 -- Edges in the whole history.
 use Rattle.std.proofs.Common.{◌≡◌, ℕ, Bool, true, false, cond, List, [], ◌∷◌, ◌++◌, refl, sym, ap, ◌∙◌, subst}
-use Rattle.std.specs.Prelude.{◌&&◌, ◌==◌}
+use Rattle.std.specs.Prelude.{◌&&◌, ◌==◌, bytes_eq}
 use Rattle.std.proofs.lemmas.Bool.{cond_both}
 use Rattle.nc_types.specs.Id.{Id}
-use Rattle.nc_types.specs.Channel.{owner_of, name_eq}
+use Rattle.nc_types.specs.Channel.{owner_of}
 use Rattle.nc_journal.specs.History.{Along, own, is_by}
 use Rattle.nc_journal.specs.Stamp.{floor_of, last_of}
 use Rattle.nc_journal.specs.declared.event.Event.{Event}
@@ -44,11 +44,11 @@ edges_stay w k c e h other = refl
 
 pub edge_adds : EdgeAdds
 edge_adds o q w number k c floor last h =
-    let test : ((w == w) && ((k == k) && name_eq c c)) ≡ true = rw (eqb_self w, eqb_self k, name_self c) refl in
+    let test : ((w == w) && ((k == k) && bytes_eq c c)) ≡ true = rw (eqb_self w, eqb_self k, name_self c) refl in
     ap (λ b. cond b (edge_told number floor last ∷ edges_of w k c h) (edges_of w k c h)) test
 
-edge_elsewhere : (workers v w k : ℕ) (c : List ℕ) (from n : ℕ) (d : List ℕ) → v ≡ owner_of workers d → (owner_of workers c == v) ≡ false → ((from == w) && ((n == k) && name_eq d c)) ≡ false
-edge_elsewhere workers v w k c from n d by other = none (from == w) (n == k) (name_eq d c) (other_channel workers v c d by other)
+edge_elsewhere : (workers v w k : ℕ) (c : List ℕ) (from n : ℕ) (d : List ℕ) → v ≡ owner_of workers d → (owner_of workers c == v) ≡ false → ((from == w) && ((n == k) && bytes_eq d c)) ≡ false
+edge_elsewhere workers v w k c from n d by other = none (from == w) (n == k) (bytes_eq d c) (other_channel workers v c d by other)
   where
     none : (x y z : Bool) → z ≡ false → (x && (y && z)) ≡ false
     none true true z is = is
@@ -60,8 +60,8 @@ edges_own workers w k c [] by = refl
 edges_own workers w k c (Edged v q from number n d floor last ∷ h) by = go (owner_of workers c == v) refl (edges_own workers w k c h by.1)
   where
     go : (b : Bool) → (owner_of workers c == v) ≡ b → edges_of w k c (own (owner_of workers c) h) ≡ edges_of w k c h
-        → edges_of w k c (cond b (Edged v q from number n d floor last ∷ own (owner_of workers c) h) (own (owner_of workers c) h)) ≡ cond ((from == w) && ((n == k) && name_eq d c)) (edge_told number floor last ∷ edges_of w k c h) (edges_of w k c h)
-    go true is rest = ap (λ (l : List EdgeTold). cond ((from == w) && ((n == k) && name_eq d c)) (edge_told number floor last ∷ l) l) rest
+        → edges_of w k c (cond b (Edged v q from number n d floor last ∷ own (owner_of workers c) h) (own (owner_of workers c) h)) ≡ cond ((from == w) && ((n == k) && bytes_eq d c)) (edge_told number floor last ∷ edges_of w k c h) (edges_of w k c h)
+    go true is rest = ap (λ (l : List EdgeTold). cond ((from == w) && ((n == k) && bytes_eq d c)) (edge_told number floor last ∷ l) l) rest
     go false is rest = rest ∙ sym (ap (λ b. cond b (edge_told number floor last ∷ edges_of w k c h) (edges_of w k c h)) (edge_elsewhere workers v w k c from n d by.0 is))
 edges_own workers w k c (e ∷ h) by =
     cond_both (is_by (owner_of workers c) e) (e ∷ own (owner_of workers c) h) (own (owner_of workers c) h) (λ l. edges_of w k c l ≡ edges_of w k c h) (λ _. edges_own workers w k c h by.1) (λ _. edges_own workers w k c h by.1)

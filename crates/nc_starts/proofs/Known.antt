@@ -1,17 +1,17 @@
 -- What the edges of each place told gives the start.
 use Rattle.std.proofs.Common.{◌≡◌, ℕ, Bool, true, false, cond, List, [], ◌∷◌, ◌++◌, refl, sym, ap, ◌∙◌, subst}
-use Rattle.std.specs.Prelude.{◌&&◌, ◌==◌}
+use Rattle.std.specs.Prelude.{◌&&◌, ◌==◌, bytes_eq}
 use Rattle.std.specs.List.{AllByRecursion}
 use Rattle.std.specs.Cmp.Lexicographic.{same_text}
 use Rattle.std.proofs.lemmas.Bool.{eqb-true, and_parts}
 use Rattle.nc_types.specs.Id.{Id}
-use Rattle.nc_types.specs.Channel.{owner_of, name_eq}
+use Rattle.nc_types.specs.Channel.{owner_of}
 use Rattle.nc_journal.specs.declared.event.Event.{Event}
 use Rattle.nc_journal.specs.declared.event.Event.TheVariants.{Edged}
 use Rattle.nc_rests.specs.Owners.{IsByOwner}
 use Rattle.nc_journal.specs.Edges.{IsEdge, EdgeTold, edge_told, edges_of, Edges, One, Two}
 use Rattle.nc_journal.specs.Newest.{greatest_time}
-use Rattle.nc_starts.specs.Told.{Told, Once, Twice, ToldStarts}
+use Rattle.nc_starts.specs.EdgesTold.{EdgesTold, Once, Twice, ToldStarts}
 
 -- the newest edge of some, in the whole history
 record NewestEdge (workers w k : ℕ) (c : List ℕ) (first : EdgeTold) (rest : List EdgeTold) (h : List Event) : Type 0 where
@@ -29,16 +29,16 @@ edge_more workers w k c first rest e h n same = record { since = e ∷ n.since; 
 
 newest_edge : (workers w k : ℕ) (c : List ℕ) (first : EdgeTold) (rest : List EdgeTold) (h : List Event) → AllByRecursion (IsByOwner workers) h → edges_of w k c h ≡ first ∷ rest → NewestEdge workers w k c first rest h
 newest_edge workers w k c first rest [] by told = absurd cc
-newest_edge workers w k c first rest (Edged v q from number n d floor last ∷ h) by told = go ((from == w) && ((n == k) && name_eq d c)) refl (newest_edge workers w k c first rest h by.1) told
+newest_edge workers w k c first rest (Edged v q from number n d floor last ∷ h) by told = go ((from == w) && ((n == k) && bytes_eq d c)) refl (newest_edge workers w k c first rest h by.1) told
   where
     here : EdgeTold
     here = edge_told number floor last
 
-    go : (b : Bool) → ((from == w) && ((n == k) && name_eq d c)) ≡ b → (edges_of w k c h ≡ first ∷ rest → NewestEdge workers w k c first rest h) → cond b (edge_told number floor last ∷ edges_of w k c h) (edges_of w k c h) ≡ first ∷ rest
+    go : (b : Bool) → ((from == w) && ((n == k) && bytes_eq d c)) ≡ b → (edges_of w k c h ≡ first ∷ rest → NewestEdge workers w k c first rest h) → cond b (edge_told number floor last ∷ edges_of w k c h) (edges_of w k c h) ≡ first ∷ rest
         → NewestEdge workers w k c first rest (Edged v q from number n d floor last ∷ h)
     go true is more told =
-        let a = and_parts (from == w) ((n == k) && name_eq d c) is in
-        let b = and_parts (n == k) (name_eq d c) a.1 in
+        let a = and_parts (from == w) ((n == k) && bytes_eq d c) is in
+        let b = and_parts (n == k) (bytes_eq d c) a.1 in
         let this : EdgeTold = edge_told number floor last in
         let same : this ≡ first = cc in
         let older : edges_of w k c h ≡ rest = cc in
@@ -57,7 +57,7 @@ newest_edge workers w k c first rest (Edged v q from number n d floor last ∷ h
         edge_more workers w k c first rest (Edged v q from number n d floor last) h m (ap (λ b. cond b (edge_told number floor last ∷ edges_of w k c m.since) (edges_of w k c m.since)) is)
 newest_edge workers w k c first rest (e ∷ h) by told = let m = newest_edge workers w k c first rest h by.1 told in edge_more workers w k c first rest e h m refl
 
-told_edges : (workers w k : ℕ) (c : List ℕ) (time : ℕ) (last : Id) (h : List Event) (ts : List EdgeTold) → AllByRecursion (IsByOwner workers) h → edges_of w k c h ≡ ts → Told time last ts → Edges workers w k c time last h
+told_edges : (workers w k : ℕ) (c : List ℕ) (time : ℕ) (last : Id) (h : List Event) (ts : List EdgeTold) → AllByRecursion (IsByOwner workers) h → edges_of w k c h ≡ ts → EdgesTold time last ts → Edges workers w k c time last h
 told_edges workers w k c time last h [] by told none = elim none [ ]
 told_edges workers w k c time last h (x ∷ []) by told (Once first same fence) =
     let n = newest_edge workers w k c first [] h by told in

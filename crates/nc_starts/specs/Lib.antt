@@ -1,5 +1,5 @@
 pub mod Edges
 pub mod Newest
 pub mod Starts
-pub mod Told
+pub mod EdgesTold
 pub mod Asked

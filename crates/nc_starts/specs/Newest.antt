@@ -9,5 +9,6 @@ use Rattle.nc_owner_laws.specs.InOrder.{LooksAt}
 
 -- under the stamp rule, where edges tell what they should, a start by its edges is lawful, whatever is stored later
 abbrev pub NewestStarts : Type 0
-NewestStarts = (workers w k : ℕ) (list : List (List ℕ)) (cur : CursorAt) (newer older : List Event) → IsStamped workers (newer ++ older) → ((o : ℕ) → Along LooksAt (own o older))
+NewestStarts = (workers w k : ℕ) (list : List (List ℕ)) (cur : CursorAt) (newer older : List Event) → IsStamped workers (newer ++ older)
+    → ((o : ℕ) → Along LooksAt (own o older))
     → StartsByEdges workers w k list cur older → StartsNewest workers w k list cur newer older

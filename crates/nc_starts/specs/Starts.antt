@@ -22,4 +22,5 @@ StartedThen workers older _ = Unit {0}
 
 -- under the stamp rule, starts that were so when they were made are lawful
 abbrev pub StartsStay : Type 0
-StartsStay = (workers : ℕ) (h : List Event) → IsStamped workers h → ((o : ℕ) → Along LooksAt (own o h)) → Along (StartedThen workers) h → IsStartedLawfully workers h
+StartsStay = (workers : ℕ) (h : List Event) → IsStamped workers h → ((o : ℕ) → Along LooksAt (own o h)) → Along (StartedThen workers) h
+    → IsStartedLawfully workers h

@@ -1,7 +1,7 @@
 //! Starts that were good when they were made are lawful.
 ghost use Rattle.nc_starts.specs.Newest.{NewestStarts};
 ghost use Rattle.nc_starts.specs.Starts.{StartsStay};
-ghost use Rattle.nc_starts.specs.Told.{EdgesCursor, ToldStarts};
+ghost use Rattle.nc_starts.specs.EdgesTold.{EdgesCursor, ToldStarts};
 
 /// A start by its edges is lawful, whatever is stored later.
 pub fn newest_starts()

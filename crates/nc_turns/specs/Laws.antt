@@ -18,4 +18,5 @@ TurnsSettle = (n : ℕ) (s : Telling) → IsSettled n s (settled can_turn turned
 
 -- as many turns come before a worn worker as moves of the line
 abbrev pub TurnsMeetWorn : Type 0
-TurnsMeetWorn = (n : ℕ) (s : Telling) → before_worn can_turn worn_turn turned is_idle n (below (turn_count s.setup.workers)) s ≡ before_worn_in s.setup (Settle n) s.world
+TurnsMeetWorn = (n : ℕ) (s : Telling)
+    → before_worn can_turn worn_turn turned is_idle n (below (turn_count s.setup.workers)) s ≡ before_worn_in s.setup (Settle n) s.world

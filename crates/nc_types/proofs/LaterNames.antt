@@ -1,6 +1,6 @@
 -- The set of the names behind the first few.
 use Rattle.std.proofs.Common.{Ordering, Less, Equal, Greater, min, ℕ, ◌<◌, ◌≤◌, List, [], ◌∷◌, ◌++◌, length, length-append, arith, ◌≡◌, ◌∙◌, refl, sym, ap, Bool, true, false, take, drop}
-use Rattle.std.specs.Prelude.{◌||◌}
+use Rattle.std.specs.Prelude.{◌||◌, bytes_eq}
 use Rattle.std.specs.List.{list_any}
 use Rattle.std.specs.Ordering.{nat_cmp, is_eq, match_ordering}
 use Rattle.std.specs.Cmp.Lexicographic.{slice_cmp, same_text, texts_ties}
@@ -8,7 +8,6 @@ use Rattle.std.specs.BTreeSet.{BTreeSet, insert_key}
 use Rattle.std.specs.Global.{Vec}
 use Rattle.std.proofs.lemmas.List.{take-append-drop, take_min, drop_all, drop-append-le}
 use Rattle.std.proofs.lemmas.List.Folds.{list_any-append}
-use Rattle.nc_types.specs.Channel.{name_eq}
 use Rattle.nc_types.specs.Names.{IsSetOf}
 
 -- how the set orders its keys, and whether one of them has these bytes
@@ -48,19 +47,19 @@ pub none_yet : (names more : List (List ℕ)) (name : List ℕ) (set same : BTre
 none_yet names more name set same lt e f h = λ q.
     ap (λ (s : BTreeSet (Vec ℕ)). list_any (has q) s.keys) f
     ∙ h q
-    ∙ ap (list_any (name_eq q)) (drop_all 8 names (omega (arith, lt)))
-    ∙ ap (list_any (name_eq q)) (sym (drop_all 8 more (omega (arith, lt, ap length e, length-append names (name ∷ [])))))
+    ∙ ap (list_any (bytes_eq q)) (drop_all 8 names (omega (arith, lt)))
+    ∙ ap (list_any (bytes_eq q)) (sym (drop_all 8 more (omega (arith, lt, ap length e, length-append names (name ∷ [])))))
 
 pub one_more : (names more : List (List ℕ)) (name : List ℕ) (key : Vec ℕ) (set wider : BTreeSet (Vec ℕ)) → 8 ≤ length names → more ≡ names ++ name ∷ [] → key.items ≡ name → wider.keys ≡ insert_key order set.keys key → IsSetOf (drop 8 names) set → IsSetOf (drop 8 more) wider
 one_more names more name key set wider le e same put h = λ q.
     ap (list_any (has q)) put
     ∙ one_key_more q key set.keys
     ∙ ap (λ (b : Bool). has q key || b) (h q)
-    ∙ ap (λ (bytes : List ℕ). is_eq (slice_cmp nat_cmp q bytes) || list_any (name_eq q) (drop 8 names)) same
-    ∙ ap (λ (b : Bool). b || list_any (name_eq q) (drop 8 names)) (sym (texts_ties q name))
-    ∙ at_the_end (name_eq q name) (list_any (name_eq q) (drop 8 names))
-    ∙ sym (list_any-append (name_eq q) (drop 8 names) (name ∷ []))
-    ∙ ap (list_any (name_eq q)) (sym (drop-append-le 8 names (name ∷ []) le) ∙ ap (drop 8) (sym e))
+    ∙ ap (λ (bytes : List ℕ). is_eq (slice_cmp nat_cmp q bytes) || list_any (bytes_eq q) (drop 8 names)) same
+    ∙ ap (λ (b : Bool). b || list_any (bytes_eq q) (drop 8 names)) (sym (texts_ties q name))
+    ∙ at_the_end (bytes_eq q name) (list_any (bytes_eq q) (drop 8 names))
+    ∙ sym (list_any-append (bytes_eq q) (drop 8 names) (name ∷ []))
+    ∙ ap (list_any (bytes_eq q)) (sym (drop-append-le 8 names (name ∷ []) le) ∙ ap (drop 8) (sym e))
   where
     at_the_end : (a b : Bool) → (a || b) ≡ (b || (a || false))
     at_the_end true true = refl
@@ -70,11 +69,11 @@ one_more names more name key set wider le e same put h = λ q.
 
 -- ---- a name is among the first few, or among those behind them
 
-pub not_before : (names : List (List ℕ)) (name : List ℕ) (few : ℕ) → few ≡ min (length names) 8 → list_any (name_eq name) (take few names) ≡ false → list_any (name_eq name) (drop 8 names) ≡ list_any (name_eq name) names
+pub not_before : (names : List (List ℕ)) (name : List ℕ) (few : ℕ) → few ≡ min (length names) 8 → list_any (bytes_eq name) (take few names) ≡ false → list_any (bytes_eq name) (drop 8 names) ≡ list_any (bytes_eq name) names
 not_before names name few e f =
-    ap (λ (b : Bool). b || list_any (name_eq name) (drop 8 names)) (sym f ∙ ap (list_any (name_eq name)) first)
-    ∙ sym (list_any-append (name_eq name) (take 8 names) (drop 8 names))
-    ∙ ap (list_any (name_eq name)) (take-append-drop 8 names)
+    ap (λ (b : Bool). b || list_any (bytes_eq name) (drop 8 names)) (sym f ∙ ap (list_any (bytes_eq name)) first)
+    ∙ sym (list_any-append (bytes_eq name) (take 8 names) (drop 8 names))
+    ∙ ap (list_any (bytes_eq name)) (take-append-drop 8 names)
   where
     first : take few names ≡ take 8 names
     first = ap (λ (n : ℕ). take n names) (omega (arith, e)) ∙ take_min 8 names

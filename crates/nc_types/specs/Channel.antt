@@ -1,10 +1,6 @@
 -- Names of channels, and their owners.
-use Rattle.std.specs.Prelude.{◌≡◌, ◌≢◌, ℕ, ◌+◌, ◌*◌, ◌%◌, ◌^◌, Bool, List, [], ◌∷◌, length, fold, bytes_eq}
+use Rattle.std.specs.Prelude.{◌≡◌, ◌≢◌, ℕ, ◌+◌, ◌*◌, ◌%◌, ◌^◌, List, [], ◌∷◌, length, fold}
 use Rattle.std.specs.List.{AllByRecursion}
-
--- two names have the same bytes
-abbrev pub name_eq : List ℕ → List ℕ → Bool
-name_eq = bytes_eq
 
 -- no name stands twice
 abbrev pub AreDistinct : List (List ℕ) → Type 0

@@ -27,6 +27,6 @@ tags_at tags time later = if later == time then tags else blank_tags tags
 abbrev pub moved : CursorAt → ℕ → Id → CursorAt
 moved cursor i id = record { time = id.time; tags = slice_set (tags_at cursor.tags cursor.time id.time) i id.tag }
 
--- the cursor of one name that an id gives
-abbrev pub cursor_of : Id → CursorAt
-cursor_of id = record { time = id.time; tags = id.tag ∷ [] }
+-- a time and tags, as a cursor
+abbrev pub as_cursor : ℕ × List ℤ → CursorAt
+as_cursor x = record { time = x.0; tags = x.1 }

@@ -1,5 +1,5 @@
 -- Ids of messages and their order.
-use Rattle.std.specs.Prelude.{◌≡◌, ◌⊎◌, ℕ, ℤ, ◌<◌, ◌≤◌, ◌<ℤ◌, ◌≤ℤ◌, pos, negsuc, Bool, nat_lt, int_lt, ◌&&◌, ◌||◌, ◌==◌}
+use Rattle.std.specs.Prelude.{◌≡◌, ◌⊎◌, ℕ, ℤ, ◌<◌, ◌≤◌, ◌<ℤ◌, ◌≤ℤ◌, pos, negsuc, Bool, not, nat_le, nat_lt, int_lt, ◌&&◌, ◌||◌, ◌==◌}
 use Rattle.std.specs.Ordering.{int_eq}
 
 -- a time in seconds, and a tag within that second
@@ -11,8 +11,16 @@ pub record Id : Type 0 where
 abbrev pub last_second : ℕ
 last_second = 253402300799
 
+-- the latest second that a clock reads
+abbrev pub latest_clock : ℕ
+latest_clock = 4102444800
+
 abbrev pub IsTime : ℕ → Type 0
 IsTime t = t ≤ last_second
+
+-- a second at which something ends has come, where the clock reads `now`; 0 is never
+abbrev pub has_come : ℕ → ℕ → Bool
+has_come second now = not (second == 0) && nat_le second now
 
 -- a number of 16 bits at most
 abbrev pub last_tag : ℕ

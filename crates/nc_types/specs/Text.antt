@@ -1,5 +1,5 @@
 -- Texts: what stands behind another, numbers in decimal, and bytes between quotation marks.
-use Rattle.std.specs.Prelude.{◌≡◌, ◌<◌, ◌≤◌, length, ℕ, ◌+◌, ◌/◌, ◌%◌, List, [], ◌∷◌, ◌++◌, if◌then◌else◌, ◌==◌, ◌&&◌, nat_le, nat_lt, ◌^◌}
+use Rattle.std.specs.Prelude.{◌≡◌, ◌<◌, ◌≤◌, length, ℕ, ◌+◌, ◌/◌, ◌%◌, List, [], ◌∷◌, ◌++◌, Bool, false, if◌then◌else◌, ◌==◌, ◌&&◌, nat_le, nat_lt, ◌^◌}
 use Rattle.std.specs.List.{flat_map}
 use Rattle.std.specs.Fmt.{decimal}
 use Rattle.std.specs.Str.Parse.{AllDigits, digits_value}
@@ -7,6 +7,11 @@ use Rattle.std.specs.Str.Parse.{AllDigits, digits_value}
 -- a text is an older one with more behind it, or that one itself
 abbrev pub IsBehind : List ℕ → List ℕ → Type 0
 IsBehind older text = (more : List ℕ) × (text ≡ older ++ more)
+
+-- a text begins with a slash
+abbrev pub begins_slash : List ℕ → Bool
+begins_slash [] = false
+begins_slash (byte ∷ bytes) = byte == 47
 
 -- a text is 1 to 20 decimal digits of this value, which may pass 2^64
 pub record IsDecimal (text : List ℕ) (n : ℕ) : Type 0 where

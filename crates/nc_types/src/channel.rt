@@ -1,11 +1,10 @@
 //! Channels: their names, their owners, and lists of them.
-ghost use Rattle.std.specs.Prelude.{◌≡◌, ◌<◌, IfOk};
+ghost use Rattle.std.specs.Prelude.{◌≡◌, ◌<◌, IfOk, bytes_eq};
 ghost use Rattle.std.proofs.Common.{rules};
 ghost use Rattle.std.specs.Cmp.{partial_order_from_own_ties};
 ghost use Rattle.std.specs.Cmp.Rules.{comparing};
 ghost use Rattle.std.specs.Cmp.Lexicographic.{slice_cmp};
 ghost use Rattle.std.specs.Ordering.{nat_cmp, as_partial_cmp};
-ghost use Rattle.nc_types.specs.Channel.{name_eq};
 
 use crate::list::{Bytes, List, NoMemory};
 use std::cmp::Ordering;
@@ -26,7 +25,7 @@ impl Model for ChanName {
 }
 
 impl PartialEq for ChanName {
-    ghost eq = { name_eq };
+    ghost eq = { bytes_eq };
 
     ghost laws = { Prim.search (comparing, rules) };
 

@@ -2,9 +2,8 @@
 //!
 //! Most lists have a few names, and those are looked through one by one. Names behind the first few stand in a set as well.
 //! So the time to put in n names grows as n log n.
-ghost use Rattle.std.specs.Prelude.{◌≡◌, ◌++◌, ◌∷◌, [], OnOk, OnErr};
+ghost use Rattle.std.specs.Prelude.{◌≡◌, ◌++◌, ◌∷◌, [], OnOk, OnErr, bytes_eq};
 ghost use Rattle.std.specs.List.{list_any};
-ghost use Rattle.nc_types.specs.Channel.{name_eq};
 
 use crate::channel::ChanName;
 use crate::list::{List, NoMemory};
@@ -38,7 +37,7 @@ impl Model for SeenNames {
 
 /// Whether a name is among some.
 fn is_among(name: &[u8], names: &[ChanName]) -> bool
-    ensures { result ≡ list_any (name_eq name.now) names.now }
+    ensures { result ≡ list_any (bytes_eq name.now) names.now }
 {
     for other in names {
         if name == other.bytes.as_slice() {
@@ -61,7 +60,7 @@ impl SeenNames {
 
     /// Whether a name is among them.
     pub fn has(&self, name: &[u8]) -> bool
-        ensures { result ≡ list_any (name_eq name.now) self.now }
+        ensures { result ≡ list_any (bytes_eq name.now) self.now }
     {
         let few = self.names.len().min(FEW);
         is_among(name, &self.names[..few]) || self.later.contains(name)

@@ -4,7 +4,7 @@
 ghost use Rattle.std.specs.Prelude.{◌≡◌, ◌+◌, ◌∷◌, ◌++◌, [], ◌<◌, IfOk, OnOk, OnErr, IfSome, IfNone, ◌≤◌, ℕ, take};
 ghost use Rattle.std.specs.Fmt.{decimal};
 ghost use Rattle.std.specs.Char.{digit_value};
-ghost use Rattle.nc_types.specs.Text.{IsBehind, IsDecimal, hex_digit, quoted_byte, quoted};
+ghost use Rattle.nc_types.specs.Text.{IsBehind, IsDecimal, begins_slash, hex_digit, quoted_byte, quoted};
 
 use crate::list::{Bytes, List, NoMemory};
 pub use crate::unquote::{UnquoteFault, unquote};
@@ -64,6 +64,16 @@ pub fn decimal(alloc: Global, n: u64) -> Result<Bytes, NoMemory>
     let mut out = Vec::new(alloc);
     put_decimal(&mut out, n)?;
     Ok(List::of(out))
+}
+
+/// Whether a text begins with a slash, as each path does (RFC 9110).
+pub fn begins_slash(text: &[u8]) -> bool
+    ensures { result ≡ begins_slash text.now }
+{
+    match text {
+        [] => false,
+        [byte, ..] => *byte == b'/',
+    }
 }
 
 /// The digit that a byte is.

@@ -6,7 +6,7 @@ use Rattle.nc_journal.specs.declared.event.Event.{Event}
 use Rattle.nc_slots.specs.declared.slot.Slot.{Slot}
 use Rattle.nc_slots.specs.Slots.{HoldAt}
 use Rattle.nc_owner.specs.Pool.{SameOthers}
-use Rattle.nc_owner_laws.specs.Fits.{Fits}
+use Rattle.nc_owner_laws.specs.OwnerFits.{OwnerFits}
 use Rattle.nc_spool_state.specs.declared.kept.Held.{Held}
 use Rattle.nc_spool_state.specs.Kept.{is_idle}
 use Rattle.nc_spool.specs.Calls.{SpoolsAt}
@@ -18,7 +18,7 @@ use Rattle.nc_worker_state.specs.Owned.{owned_in}
 use Rattle.nc_worker_state.specs.Desk.{Desk, opening, begun, served}
 use Rattle.nc_worker_state.specs.Worker.{IsHandled, given_back, part_woven, step_events, with_at}
 use Rattle.nc_outbox.specs.Outboxes.{next_of, outbox_of}
-use Rattle.nc_scribe.specs.Scribe.{ScribeAt, Tells, IsOwnScribe, KeepsOwn}
+use Rattle.nc_scribe.specs.Scribe.{ScribeAt, TellsMore, IsOwnScribe, KeepsOwn}
 use Rattle.nc_scribe.specs.Story.{Story}
 use Rattle.nc_scribe.proofs.Deeds.{told-append}
 use Rattle.nc_scribe.proofs.Story.{tells_on, tells_same}
@@ -60,7 +60,7 @@ module _ {H : Type 0} where
 
 module _ {H : Type 0} (held : H → HoldAt) (exact : Bool) (setup : Setup) (incoming : Incoming) (slots mid_slots new_slots : ℕ → List (Slot Message)) (holds mid_holds new_holds : ℕ → List ℕ) (old mid : Parts H) (desk : DeskAt H) (scribe last : ScribeAt H)
     (acts : Acts held exact incoming (opening setup (me_of old) incoming (told_desk old.desk)) (begun setup (me_of old) incoming (told_desk old.desk)) slots mid_slots holds mid_holds old mid)
-    (tells : Tells mid.scribe scribe (idle_events mid.scribe.me mid.desk.spools)) (busy : desk ≡ busy_desk mid.desk) (same_slots : new_slots ≡ mid_slots)
+    (tells : TellsMore mid.scribe scribe (idle_events mid.scribe.me mid.desk.spools)) (busy : desk ≡ busy_desk mid.desk) (same_slots : new_slots ≡ mid_slots)
     (ends : last ≡ record scribe { events = [] }) where
   -- the whole step is told
   whole : (idle_events mid.scribe.me mid.desk.spools ≡ idle_events (me_of old) mid.desk.spools)
@@ -86,7 +86,7 @@ module _ {H : Type 0} (held : H → HoldAt) (exact : Bool) (setup : Setup) (inco
       ≡ step_events setup (me_of old) acts.polls incoming (seat_of slots holds old)
   same_whole = whole (ap (λ (n : ℕ). idle_events n mid.desk.spools) mid_me)
 
-  all_told : Tells old.scribe scribe (step_events setup (me_of old) acts.polls incoming (seat_of slots holds old))
+  all_told : TellsMore old.scribe scribe (step_events setup (me_of old) acts.polls incoming (seat_of slots holds old))
   all_told = tells_same same_whole (tells_on acts.tells tells)
 
   row_left : new_slots (me_of mid) ≡ mid_slots (me_of old)
@@ -125,8 +125,8 @@ module _ {H : Type 0} (held : H → HoldAt) (exact : Bool) (setup : Setup) (inco
   pub others_whole : SameOthers (me_of old) slots new_slots
   others_whole = subst (λ (f : ℕ → List (Slot Message)). SameOthers (me_of old) slots f) (sym same_slots) acts.leaves.others
 
-  pub fits_whole : Fits (new_slots (me_of old)) mid.owner
-  fits_whole = subst (λ (f : ℕ → List (Slot Message)). Fits (f (me_of old)) mid.owner) (sym same_slots) acts.leaves.fits
+  pub fits_whole : OwnerFits (new_slots (me_of old)) mid.owner
+  fits_whole = subst (λ (f : ℕ → List (Slot Message)). OwnerFits (f (me_of old)) mid.owner) (sym same_slots) acts.leaves.fits
 
   pub sound_whole : KeepsOwn held mid.scribe scribe → AreHeld held desk.spools.kept → AreSound held (record mid { desk = desk; scribe = last })
   sound_whole own kept = record {

@@ -9,7 +9,7 @@ use Rattle.nc_slots.specs.declared.slot.Slot.{Slot}
 use Rattle.nc_slots.specs.Slots.{HoldAt}
 use Rattle.nc_owner.specs.State.{OwnerAt}
 use Rattle.nc_owner.specs.AlertLines.{alert_line, answer_line}
-use Rattle.nc_owner_laws.specs.Fits.{Fits}
+use Rattle.nc_owner_laws.specs.OwnerFits.{OwnerFits}
 use Rattle.nc_history.specs.Packets.{packet}
 use Rattle.nc_worker_state.specs.Incoming.{TakesPacket}
 use Rattle.nc_worker_state.specs.Owned.{Holding, AskedPolls, at_once, owned_by, unowned, no_polls}
@@ -50,7 +50,7 @@ module _ {H : Type 0} (held : H → HoldAt) (exact : Bool) (from : ℕ) (slots :
       (acts_owned held exact (TakesPacket from (packet n (alert_line x))) slots new_slots holds new_holds old sound owner scribe (owns n)))
 
   -- the desk did what it says
-  pub hears_served : (desk : DeskAt H) (scribe : ScribeAt H) → Fits (slots (me_of old)) old.owner → AsksNothing exact from (alert_line x)
+  pub hears_served : (desk : DeskAt H) (scribe : ScribeAt H) → OwnerFits (slots (me_of old)) old.owner → AsksNothing exact from (alert_line x)
       → Serves desk old.scribe scribe (handled old.scribe.me from (alert_line x) (told_desk old.desk)) → KeepsOwn held old.scribe scribe → KeepsHeld held old.desk desk
       → Hears held exact from slots slots holds holds old (record old { desk = desk; scribe = scribe }) a
   hears_served desk scribe fits asks serves own kept =
@@ -59,7 +59,7 @@ module _ {H : Type 0} (held : H → HoldAt) (exact : Bool) (from : ℕ) (slots :
       (asks.fit (holding_at slots holds old.owner)) (ap at_once (asks.none (holding_at slots holds old.owner))) serves own kept)
 
   -- the same where its spools stay
-  pub hears_replied : (desk : DeskAt H) (scribe : ScribeAt H) → Fits (slots (me_of old)) old.owner → AsksNothing exact from (alert_line x)
+  pub hears_replied : (desk : DeskAt H) (scribe : ScribeAt H) → OwnerFits (slots (me_of old)) old.owner → AsksNothing exact from (alert_line x)
       → Serves desk old.scribe scribe (handled old.scribe.me from (alert_line x) (told_desk old.desk)) → KeepsOwn held old.scribe scribe → desk.spools ≡ old.desk.spools
       → Hears held exact from slots slots holds holds old (record old { desk = desk; scribe = scribe }) a
   hears_replied desk scribe fits asks serves own same =

@@ -31,7 +31,8 @@ use Rattle.nc_worker_state.specs.Spooled.{found_by, found_in, facts_deeds}
 use Rattle.nc_worker_state.specs.Owned.{Holding, StepPolls, owned_by, owned_in, order_of, member_of}
 use Rattle.nc_worker_state.specs.Desk.{Desk, Served, unserved, is_waiting, without, replied, handled, opening, begun}
 use Rattle.nc_worker_state.specs.Worker.{given_back, part_woven}
-use Rattle.nc_scribe.specs.Kinds.{IsAside, AreAsideDeeds}
+use Rattle.nc_scribe.specs.Kinds.{IsAside}
+use Rattle.nc_scribe.proofs.Deeds.{AreAsideDeeds}
 
 -- an event gives no hold back
 abbrev pub IsUnreleased : Event → Type 0

@@ -10,7 +10,7 @@ use Rattle.nc_worker_state.specs.Owned.{OwnersPart, StepPolls, StepPollsFit, own
 use Rattle.nc_worker_state.specs.Desk.{Served}
 use Rattle.nc_worker_state.specs.Worker.{WorkerAt, Seat, part_woven}
 use Rattle.nc_outbox.specs.Outboxes.{next_of, outbox_of}
-use Rattle.nc_scribe.specs.Scribe.{Tells, IsOwnScribe}
+use Rattle.nc_scribe.specs.Scribe.{TellsMore, IsOwnScribe}
 use Rattle.nc_desk.specs.Desk.{told_desk, AreHeld}
 use Rattle.nc_owned.specs.Owns.{holding_at, Leaves}
 use Rattle.nc_worker.specs.declared.parts.Parts.{Parts}
@@ -43,5 +43,5 @@ pub record Acts {H : Type 0} (held : H → HoldAt) (exact : Bool) (incoming : In
   pub fit : StepPollsFit exact incoming (holding_at slots holds old.owner) polls
   pub leaves : Leaves exact (owned_in polls incoming (holding_at slots holds old.owner)).last.after slots new_slots holds new_holds old.owner new.owner
   pub desk : told_desk new.desk ≡ r.after
-  pub tells : Tells old.scribe new.scribe (acted_events (me_of old) (next_of old.scribe.outboxes) before (owned_in polls incoming (holding_at slots holds old.owner)) r)
+  pub tells : TellsMore old.scribe new.scribe (acted_events (me_of old) (next_of old.scribe.outboxes) before (owned_in polls incoming (holding_at slots holds old.owner)) r)
   pub sound : AreSound held new

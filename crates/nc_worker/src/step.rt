@@ -4,12 +4,12 @@ ghost use Rattle.nc_alert.specs.Packet.{grant_of};
 ghost use Rattle.nc_owner.specs.AlertLines.{alert_line};
 ghost use Rattle.nc_owner.specs.Moment.{IsClock};
 ghost use Rattle.nc_owner.specs.Pool.{SameOthers};
-ghost use Rattle.nc_owner_laws.specs.Fits.{Fits};
+ghost use Rattle.nc_owner_laws.specs.OwnerFits.{OwnerFits};
 ghost use Rattle.nc_history.specs.Packets.{packet, kind_of as kind_of_line};
 ghost use Rattle.nc_journal.specs.declared.event.Event.TheVariants.{Took, Clock};
 ghost use Rattle.nc_slots.specs.Slots.{HoldAt};
 ghost use Rattle.nc_owner.specs.OtherSteps.{with_clock};
-ghost use Rattle.nc_scribe.specs.Scribe.{Tells, KeepsOwn};
+ghost use Rattle.nc_scribe.specs.Scribe.{TellsMore, KeepsOwn};
 ghost use Rattle.nc_outbox.specs.Outboxes.{IsGranted};
 ghost use Rattle.nc_worker_state.specs.Setup.{setup_of};
 ghost use Rattle.nc_worker_state.specs.Incoming.{TakesPacket, incoming_of, told_packet};
@@ -39,10 +39,12 @@ fn hear<P: Slots>(
     alert: Alert<P::Hold>,
 ) -> Result<(), NoMemory>
     requires sound { AreSound P.held parts.old }
-    requires fits { Fits (P.slots pool.old (me_of parts.old)) parts.old.owner }
+    requires fits { OwnerFits (P.slots pool.old (me_of parts.old)) parts.old.owner }
     requires limits { CanHear alert }
     requires granted { IfSome (grant_of alert) (IsGranted P.held from) }
-    ensures { OnOk result ((n : ℕ) → Acts P.held P.exact (TakesPacket from (packet n (alert_line alert))) [] (handled (me_of parts.old) from (alert_line alert) (told_desk parts.old.desk)) (P.slots pool.old) (P.slots pool.new) (P.holds pool.old) (P.holds pool.new) parts.old parts.new) }
+    ensures { OnOk result ((n : ℕ) → Acts P.held P.exact (TakesPacket from (packet n (alert_line alert))) []
+        (handled (me_of parts.old) from (alert_line alert) (told_desk parts.old.desk)) (P.slots pool.old) (P.slots pool.new) (P.holds pool.old)
+        (P.holds pool.new) parts.old parts.new) }
 {
     match alert {
         Alert::Publish {
@@ -161,10 +163,13 @@ fn take<P: Slots>(
     packet: Packet<P::Hold>,
 ) -> Result<(), NoMemory>
     requires sound { AreSound P.held parts.old }
-    requires fits { Fits (P.slots pool.old (me_of parts.old)) parts.old.owner }
+    requires fits { OwnerFits (P.slots pool.old (me_of parts.old)) parts.old.owner }
     requires limits { CanHear packet.alert }
     requires granted { IfSome (grant_of packet.alert) (IsGranted P.held packet.from) }
-    ensures { OnOk result (Acts P.held P.exact (TakesPacket packet.from (told_packet packet)) (Took (me_of parts.old) packet.from packet.number (kind_of_line (alert_line packet.alert)) ∷ []) (handled (me_of parts.old) packet.from (alert_line packet.alert) (told_desk parts.old.desk)) (P.slots pool.old) (P.slots pool.new) (P.holds pool.old) (P.holds pool.new) parts.old parts.new) }
+    ensures { OnOk result (Acts P.held P.exact (TakesPacket packet.from (told_packet packet))
+        (Took (me_of parts.old) packet.from packet.number (kind_of_line (alert_line packet.alert)) ∷ [])
+        (handled (me_of parts.old) packet.from (alert_line packet.alert) (told_desk parts.old.desk)) (P.slots pool.old) (P.slots pool.new)
+        (P.holds pool.old) (P.holds pool.new) parts.old parts.new) }
 {
     parts.scribe.tell(Event::Took {
         w: u64::from(parts.scribe.me()),
@@ -181,7 +186,7 @@ fn set_clock<H: Drop>(parts: &mut Parts<H>, now: u64) -> Result<(), NoMemory>
     requires { IsClock now }
     ensures owner { OnOk result (parts.new.owner ≡ with_clock now parts.old.owner) }
     ensures desk { OnOk result (parts.new.desk ≡ parts.old.desk) }
-    ensures tells { OnOk result (Tells parts.old.scribe parts.new.scribe (Clock parts.old.scribe.me now ∷ [])) }
+    ensures tells { OnOk result (TellsMore parts.old.scribe parts.new.scribe (Clock parts.old.scribe.me now ∷ [])) }
     ensures own { OnOk result ((held : H → HoldAt) → KeepsOwn held parts.old.scribe parts.new.scribe) }
 {
     let w = u64::from(parts.scribe.me());
@@ -199,9 +204,12 @@ fn begin<P: Slots>(
     input: Input<P::Hold>,
 ) -> Result<(), NoMemory>
     requires sound { AreSound P.held parts.old }
-    requires fits { Fits (P.slots pool.old (me_of parts.old)) parts.old.owner }
+    requires fits { OwnerFits (P.slots pool.old (me_of parts.old)) parts.old.owner }
     requires input { IsInput P.held conf.now.workers (me_of parts.old) input }
-    ensures { OnOk result ((first : ℕ) → Acts P.held P.exact (incoming_of input) (opening (setup_of conf.now first) (me_of parts.old) (incoming_of input) (told_desk parts.old.desk)) (begun (setup_of conf.now first) (me_of parts.old) (incoming_of input) (told_desk parts.old.desk)) (P.slots pool.old) (P.slots pool.new) (P.holds pool.old) (P.holds pool.new) parts.old parts.new) }
+    ensures { OnOk result ((first : ℕ) → Acts P.held P.exact (incoming_of input)
+        (opening (setup_of conf.now first) (me_of parts.old) (incoming_of input) (told_desk parts.old.desk))
+        (begun (setup_of conf.now first) (me_of parts.old) (incoming_of input) (told_desk parts.old.desk)) (P.slots pool.old) (P.slots pool.new)
+        (P.holds pool.old) (P.holds pool.new) parts.old parts.new) }
 {
     match input {
         Input::Packet(packet) => {
@@ -246,12 +254,13 @@ pub(crate) fn step<P: Slots>(
     input: Input<P::Hold>,
 ) -> Result<EventList, NoMemory>
     requires sound { AreSound P.held parts.old }
-    requires fits { Fits (P.slots pool.old (me_of parts.old)) parts.old.owner }
+    requires fits { OwnerFits (P.slots pool.old (me_of parts.old)) parts.old.owner }
     requires input { IsInput P.held conf.now.workers (me_of parts.old) input }
     requires told { parts.old.scribe.events ≡ [] }
-    ensures handled { IfOk result (λ list. (first : ℕ) → IsHandled P.exact (setup_of conf.now first) (me_of parts.old) (incoming_of input) (seat_of (P.slots pool.old) (P.holds pool.old) parts.old) list.events (seat_of (P.slots pool.new) (P.holds pool.new) parts.new)) }
+    ensures handled { IfOk result (λ list. (first : ℕ) → IsHandled P.exact (setup_of conf.now first) (me_of parts.old) (incoming_of input)
+        (seat_of (P.slots pool.old) (P.holds pool.old) parts.old) list.events (seat_of (P.slots pool.new) (P.holds pool.new) parts.new)) }
     ensures others { OnOk result (SameOthers (me_of parts.old) (P.slots pool.old) (P.slots pool.new)) }
-    ensures fits { OnOk result (Fits (P.slots pool.new (me_of parts.old)) parts.new.owner) }
+    ensures fits { OnOk result (OwnerFits (P.slots pool.new (me_of parts.old)) parts.new.owner) }
     ensures sound { OnOk result (AreSound P.held parts.new) }
     ensures me { OnOk result (me_of parts.new ≡ me_of parts.old) }
     ensures told { OnOk result (parts.new.scribe.events ≡ []) }

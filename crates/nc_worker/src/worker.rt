@@ -1,7 +1,7 @@
 //! Workers.
 ghost use Rattle.std.specs.Prelude.{◌≡◌, ◌<◌, ◌∷◌, [], ℕ, OnOk, IfOk, IfErr, OnErr, IfNone, IfSome, true, false, length, drop};
 ghost use Rattle.nc_owner.specs.Pool.{SameOthers};
-ghost use Rattle.nc_owner_laws.specs.Fits.{Fits};
+ghost use Rattle.nc_owner_laws.specs.OwnerFits.{OwnerFits};
 ghost use Rattle.nc_worker_state.specs.Setup.{setup_of};
 ghost use Rattle.nc_worker_state.specs.Incoming.{incoming_of, told_packet};
 ghost use Rattle.nc_worker_state.specs.Worker.{IsHandled, is_worn, is_worn_number, any_worn, new_worker, with_at};
@@ -122,9 +122,13 @@ impl<P: Slots> Worker<P> {
     pub fn next_packet(&mut self, to: u8) -> Option<Packet<P::Hold>>
         requires sound { IsKept P.held self.old.spent self.old.parts }
         ensures none { IfNone result ((worker_of self.old.parts).outbox to ≡ []) }
-        ensures first { IfSome result (λ packet. (worker_of self.old.parts).outbox to ≡ told_packet packet ∷ drop 1 ((worker_of self.old.parts).outbox to)) }
+        ensures first { IfSome result (λ packet. (worker_of self.old.parts).outbox to
+            ≡ told_packet packet ∷ drop 1 ((worker_of self.old.parts).outbox to)) }
         ensures own { self.old.spent ≡ false → IfSome result (IsOwn P.held (me_of self.old.parts) to) }
-        ensures rest { worker_of self.new.parts ≡ record (worker_of self.old.parts) { outbox = with_at (worker_of self.old.parts).outbox to (drop 1 ((worker_of self.old.parts).outbox to)) } }
+        ensures rest { worker_of self.new.parts ≡ record (worker_of self.old.parts) {
+          outbox = with_at (worker_of self.old.parts).outbox to
+              (drop 1 ((worker_of self.old.parts).outbox to));
+        } }
         ensures sound { IsKept P.held self.new.spent self.new.parts }
         ensures workers { self.new.workers ≡ self.old.workers }
         ensures spent { self.new.spent ≡ self.old.spent }
@@ -142,11 +146,12 @@ impl<P: Slots> Worker<P> {
     ) -> Result<EventList, NoMemory>
         requires ready { self.old.spent ≡ false }
         requires sound { IsKept P.held self.old.spent self.old.parts }
-        requires fits { Fits (P.slots pool.old (me_of self.old.parts)) self.old.parts.owner }
+        requires fits { OwnerFits (P.slots pool.old (me_of self.old.parts)) self.old.parts.owner }
         requires input { IsInput P.held conf.now.workers (me_of self.old.parts) input }
-        ensures handled { IfOk result (λ list. (first : ℕ) → IsHandled P.exact (setup_of conf.now first) (me_of self.old.parts) (incoming_of input) (seat_of (P.slots pool.old) (P.holds pool.old) self.old.parts) list.events (seat_of (P.slots pool.new) (P.holds pool.new) self.new.parts)) }
+        ensures handled { IfOk result (λ list. (first : ℕ) → IsHandled P.exact (setup_of conf.now first) (me_of self.old.parts) (incoming_of input)
+            (seat_of (P.slots pool.old) (P.holds pool.old) self.old.parts) list.events (seat_of (P.slots pool.new) (P.holds pool.new) self.new.parts)) }
         ensures others { OnOk result (SameOthers (me_of self.old.parts) (P.slots pool.old) (P.slots pool.new)) }
-        ensures fits { OnOk result (Fits (P.slots pool.new (me_of self.old.parts)) self.new.parts.owner) }
+        ensures fits { OnOk result (OwnerFits (P.slots pool.new (me_of self.old.parts)) self.new.parts.owner) }
         ensures me { OnOk result (me_of self.new.parts ≡ me_of self.old.parts) }
         ensures sound { IsKept P.held self.new.spent self.new.parts }
         ensures ready { OnOk result (self.new.spent ≡ false) }
@@ -168,12 +173,13 @@ impl<P: Slots> Worker<P> {
         input: Input<P::Hold>,
     ) -> Result<EventList, HandleRefusal>
         requires sound { IsKept P.held self.old.spent self.old.parts }
-        requires fits { self.old.spent ≡ false → Fits (P.slots pool.old (me_of self.old.parts)) self.old.parts.owner }
+        requires fits { self.old.spent ≡ false → OwnerFits (P.slots pool.old (me_of self.old.parts)) self.old.parts.owner }
         requires input { IsInput P.held conf.now.workers (me_of self.old.parts) input }
         ensures can { OnOk result ((self.old.spent ≡ false) × (is_worn self.old.workers (worker_of self.old.parts) ≡ false)) }
-        ensures handled { IfOk result (λ list. (first : ℕ) → IsHandled P.exact (setup_of conf.now first) (me_of self.old.parts) (incoming_of input) (seat_of (P.slots pool.old) (P.holds pool.old) self.old.parts) list.events (seat_of (P.slots pool.new) (P.holds pool.new) self.new.parts)) }
+        ensures handled { IfOk result (λ list. (first : ℕ) → IsHandled P.exact (setup_of conf.now first) (me_of self.old.parts) (incoming_of input)
+            (seat_of (P.slots pool.old) (P.holds pool.old) self.old.parts) list.events (seat_of (P.slots pool.new) (P.holds pool.new) self.new.parts)) }
         ensures others { OnOk result (SameOthers (me_of self.old.parts) (P.slots pool.old) (P.slots pool.new)) }
-        ensures fits { OnOk result (Fits (P.slots pool.new (me_of self.old.parts)) self.new.parts.owner) }
+        ensures fits { OnOk result (OwnerFits (P.slots pool.new (me_of self.old.parts)) self.new.parts.owner) }
         ensures me { OnOk result (me_of self.new.parts ≡ me_of self.old.parts) }
         ensures sound { IsKept P.held self.new.spent self.new.parts }
         ensures ready { OnOk result (self.new.spent ≡ false) }

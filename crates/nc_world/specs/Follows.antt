@@ -77,7 +77,8 @@ pub record Turn (m : Move) (go : List Event → Carried → List Event → Carri
   pub is_move : IsMoveOf m h carried step between
   pub goes : go (onto step h) between behind after
 
-abbrev pub Turns : Option (Move × List Move) → (List Move → List Event → Carried → List Event → Carried → Type 0) → List Event → Carried → List Event → Carried → Type 0
+abbrev pub Turns : Option (Move × List Move) → (List Move → List Event → Carried → List Event → Carried → Type 0) → List Event → Carried
+    → List Event → Carried → Type 0
 Turns None go h carried events after = Stops carried events after
 Turns (Some turn) go h carried events after = Turn turn.0 (go turn.1) h carried events after
 
@@ -135,7 +136,8 @@ abbrev pub FollowsTo : Setup → List Line → List (List Event) → Carried →
 FollowsTo setup [] [] carried = (v w : ℕ) → carried v w ≡ 0
 FollowsTo setup [] (es ∷ journal) carried = ⊥
 FollowsTo setup (line ∷ lines) [] carried = ⊥
-FollowsTo setup (line ∷ lines) (es ∷ journal) carried = (before : Carried) × FollowsTo setup lines journal before × IsSegment setup line (joined journal) before es carried
+FollowsTo setup (line ∷ lines) (es ∷ journal) carried = (before : Carried) × FollowsTo setup lines journal before
+    × IsSegment setup line (joined journal) before es carried
 
 abbrev pub Follows : Setup → List Line → List (List Event) → Type 0
 Follows setup lines journal = (carried : Carried) × FollowsTo setup lines journal carried

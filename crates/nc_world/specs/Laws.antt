@@ -22,7 +22,8 @@ MoreMoves = (setup : Setup) (ms : List Move) (h : List Event) (world : World) �
 -- the moves of each line can be made, the last line first
 abbrev pub AreLines : Setup → List Line → Type 0
 AreLines setup [] = Unit {0}
-AreLines setup (line ∷ lines) = AreLines setup lines × CanMove setup (moves_of setup line (lines_world setup lines)) (joined (journal_of setup lines)) (lines_world setup lines)
+AreLines setup (line ∷ lines) = AreLines setup lines
+    × CanMove setup (moves_of setup line (lines_world setup lines)) (joined (journal_of setup lines)) (lines_world setup lines)
 
 -- so lines lead to a reached world, whose history is their journal
 abbrev pub LinesReach : Type 0

@@ -6,8 +6,8 @@ use Rattle.nc_journal.specs.Holding.{holds}
 use Rattle.nc_journal.specs.declared.event.Event.{Event}
 use Rattle.nc_journal.specs.declared.event.Event.TheVariants.{Clock, Asked, Subscribed, Joined, Parted, Raised, Stored, Left, Looked, Edged, Granted, Freed, Removed, Took, Pending, Quiet}
 use Rattle.nc_journal.specs.declared.alert.AlertLine.{AlertLine}
-use Rattle.nc_owner_laws.specs.OwnerTold.{Tells}
-use Rattle.nc_owner_laws.specs.Fits.{Fits}
+use Rattle.nc_owner_laws.specs.OwnerTold.{HistoryTells}
+use Rattle.nc_owner_laws.specs.OwnerFits.{OwnerFits}
 use Rattle.nc_owner_laws.specs.Filters.{new_desk}
 use Rattle.nc_journal.specs.declared.alert.AlertLine.TheVariants as lines
 use Rattle.nc_history.specs.Packets.{Packet, packet, pending, made_count}
@@ -24,8 +24,8 @@ next_numbers setup w h to = setup.first + made_count w to h
 -- the owner of a worker as the history tells it: what it keeps of its channels; its slots, which are those of its entries and its retired ones;
 -- and how many holds each has
 pub record IsToldOwner (setup : Setup) (w : ℕ) (h : List Event) (s : Holding) : Type 0 where
-  pub tells : Tells (new_desk w setup.workers setup.slots setup.first) (own w h) s.owner
-  pub fits : Fits s.row s.owner
+  pub tells : HistoryTells (new_desk w setup.workers setup.slots setup.first) (own w h) s.owner
+  pub fits : OwnerFits s.row s.owner
   pub counts : (slot : ℕ) → slot < setup.slots → slice_index s.counts slot ≡ holds w slot h
 
 -- some events are what the owner that the history tells does with what comes, with the alerts that it makes

@@ -43,4 +43,5 @@ IsMove setup h Rests = Unit {0}
 -- moves lead from the new world to a world with a history
 pub data Reached (setup : Setup) : List Event → World → Type 0 where
   Begins : Reached setup [] (new_world setup)
-  Moves : (h : List Event) (world : World) (m : Move) → Reached setup h world → IsMove setup h m → Reached setup (onto (move_events setup m world) h) (moved setup m world)
+  Moves : (h : List Event) (world : World) (m : Move) → Reached setup h world → IsMove setup h m
+      → Reached setup (onto (move_events setup m world) h) (moved setup m world)

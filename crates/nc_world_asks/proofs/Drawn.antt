@@ -13,9 +13,9 @@ use Rattle.nc_spool.specs.declared.fact.Fact.{Fact}
 use Rattle.nc_spool.specs.Board.{told, looked, asked_from}
 use Rattle.nc_spool.specs.Decide.{fence_look, fence_looks}
 use Rattle.nc_spool.specs.Newest.{asked_edge, edges_from, edge_behind, edges_behind}
-use Rattle.nc_spool_laws.specs.Closed.{IsClosed}
+use Rattle.nc_spool_laws.proofs.Closing.{IsClosed}
 use Rattle.nc_spool_laws.specs.Numbers.{one}
-use Rattle.nc_spool_laws.specs.Standing.{AnyNews, AnyAnswer, AnyLast, AnyKey, AnyFind}
+use Rattle.nc_spool_laws.specs.Attended.{AnyNews, AnyAnswer, AnyLast, AnyKey, AnyFind}
 use Rattle.nc_spool_laws.proofs.Totals.{total-push}
 use Rattle.nc_spool_laws.proofs.Walk.{all-kept}
 use Rattle.nc_world_asks.specs.Drawing.{draw_at, drawn, AreDrawn, DrawnBeside, DrawnApart, KeepsDrawn}

@@ -9,7 +9,7 @@ use Rattle.nc_spool_state.specs.Spool.{SpoolAt}
 use Rattle.nc_spool_state.specs.Starting.{StartingAt}
 use Rattle.nc_spool_laws.specs.Closed.{IsKept}
 use Rattle.nc_spool_laws.specs.Numbers.{one, total, IsOnce}
-use Rattle.nc_spool_laws.specs.Standing.{AnyNews, AnyAnswer, AnyLast, AnyKey, AnyFind}
+use Rattle.nc_spool_laws.specs.Attended.{AnyNews, AnyAnswer, AnyLast, AnyKey, AnyFind}
 
 -- how often an ask draws a number
 abbrev pub ask_at : ℕ → Ask → ℕ

@@ -14,7 +14,7 @@ use Rattle.nc_spool_state.specs.Spool.{SpoolAt, awaits, with_place}
 use Rattle.nc_spool_state.specs.Shelf.{without_first}
 use Rattle.nc_spool_state.specs.Hear.{learned, found_by}
 use Rattle.nc_spool.specs.Hear.{answered, answered_by, answered_at}
-use Rattle.nc_spool_laws.specs.Standing.{AnyLast, AnyKey, AnyNews, AnyAnswer, AnyFind}
+use Rattle.nc_spool_laws.specs.Attended.{AnyLast, AnyKey, AnyNews, AnyAnswer, AnyFind}
 use Rattle.nc_spool_laws.specs.Numbers.{one, total, look_at, looks_of}
 use Rattle.nc_spool_laws.proofs.Totals.{total-without}
 use Rattle.nc_spool_laws.proofs.Lists.{found-passes}

@@ -18,7 +18,7 @@ use Rattle.nc_worker_state.specs.Worker.{WorkerAt, with_at, dealt_worker}
 use Rattle.nc_world.specs.World.{World, handled_events, handled}
 use Rattle.nc_world.specs.Moves.{carried_one}
 use Rattle.nc_world.specs.Reached.{IsSetup, Reached}
-use Rattle.nc_world_laws.specs.WorldTheme.{IsWorldTheme}
+use Rattle.nc_world_laws.proofs.WorldTheme.{IsWorldTheme}
 use Rattle.nc_world_laws.proofs.Local.{either}
 use Rattle.nc_world_laws.proofs.Acting.{with_all}
 use Rattle.nc_world_laws.proofs.Parts.{owns, serves}

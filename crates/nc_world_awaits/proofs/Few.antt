@@ -16,8 +16,9 @@ use Rattle.nc_spool_state.specs.Starting.{StartingAt}
 use Rattle.nc_spool.specs.Board.{looked, asked_from, fresh_places}
 use Rattle.nc_spool.specs.Decide.{fenced_places, fence_look, fence_looks}
 use Rattle.nc_spool.specs.Newest.{edges_from, asked_edge, edge_behind, edges_behind}
-use Rattle.nc_spool_laws.specs.Closed.{IsSending, IsClosed, IsKept}
-use Rattle.nc_spool_laws.specs.Standing.{AnyLast, AnyKey, AnyNews, AnyAnswer, AnyFind}
+use Rattle.nc_spool_laws.specs.Closed.{IsKept}
+use Rattle.nc_spool_laws.proofs.Closing.{IsSending, IsClosed}
+use Rattle.nc_spool_laws.specs.Attended.{AnyLast, AnyKey, AnyNews, AnyAnswer, AnyFind}
 use Rattle.nc_spool_laws.specs.Numbers.{one, total, look_at, looks_of}
 use Rattle.nc_spool_laws.proofs.Totals.{total-insert, total-without, total-set, total-same}
 use Rattle.nc_spool_laws.proofs.Same.{asked-shelf, fences-shelf, edges-shelf, behinds-shelf}

@@ -24,9 +24,9 @@ use Rattle.nc_worker_state.specs.Worker.{WorkerAt, with_at, dealt_worker}
 use Rattle.nc_world.specs.World.{World, handled_events, handled}
 use Rattle.nc_world.specs.Moves.{carried_one, with_ring}
 use Rattle.nc_world.specs.Reached.{IsSetup, IsInput, Reached}
-use Rattle.nc_world_laws.specs.Kinds.{IsUntaken}
+use Rattle.nc_world_laws.proofs.WorkerKinds.{IsUntaken}
 use Rattle.nc_world_laws.specs.Good.{Good}
-use Rattle.nc_world_laws.specs.WorldTheme.{IsWorldTheme}
+use Rattle.nc_world_laws.proofs.WorldTheme.{IsWorldTheme}
 use Rattle.nc_world_laws.proofs.Local.{either, eqb_self}
 use Rattle.nc_world_laws.proofs.Acting.{with_all}
 use Rattle.nc_world_laws.proofs.Parts.{owns, serves, rest, rest_untaken}

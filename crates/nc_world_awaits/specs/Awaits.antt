@@ -17,7 +17,8 @@ awaiting n shelf = total (looks_of n) shelf
 
 -- a worker took no answer to the look that one of its places awaits
 abbrev pub AwaitedIsUnanswered : Type 0
-AwaitedIsUnanswered = (setup : Setup) (h : List Event) (world : World) → IsSetup setup → Reached setup h world → (w v n : ℕ) → 1 ≤ awaiting n (shelf_at world w) → weigh (looked n) (received v w h) ≡ 0
+AwaitedIsUnanswered = (setup : Setup) (h : List Event) (world : World) → IsSetup setup → Reached setup h world → (w v n : ℕ)
+    → 1 ≤ awaiting n (shelf_at world w) → weigh (looked n) (received v w h) ≡ 0
 
 -- so that look is pending, or its answer is
 pub record IsOnItsWay (w n : ℕ) (h : List Event) : Type 0 where
@@ -25,7 +26,8 @@ pub record IsOnItsWay (w n : ℕ) (h : List Event) : Type 0 where
   pub pends : (1 ≤ weigh (looking n) (lines_of (pending w owner h))) ⊎ (1 ≤ weigh (looked n) (lines_of (pending owner w h)))
 
 abbrev pub LooksComeBack : Type 0
-LooksComeBack = (setup : Setup) (h : List Event) (world : World) → IsSetup setup → Reached setup h world → (w n : ℕ) → 1 ≤ awaiting n (shelf_at world w) → IsOnItsWay w n h
+LooksComeBack = (setup : Setup) (h : List Event) (world : World) → IsSetup setup → Reached setup h world → (w n : ℕ)
+    → 1 ≤ awaiting n (shelf_at world w) → IsOnItsWay w n h
 
 -- the sentence on quiet holds of the history of each reached world
 abbrev pub HistoriesRest : Type 0

@@ -1,10 +1,10 @@
 -- A subscriber that begins behind the newest messages asks for an edge of each of its channels, and all other starts know what they knew.
 use Rattle.std.proofs.Common.{◌≡◌, ◌≢◌, inl, ℕ, zero, suc, ◌+◌, ◌<◌, Bool, true, false, cond, List, [], ◌∷◌, ◌++◌, None, refl, sym, ap, ◌∙◌, subst, arith, length}
-use Rattle.std.specs.Prelude.{◌==◌, ◌&&◌, fold}
+use Rattle.std.specs.Prelude.{◌==◌, ◌&&◌, fold, bytes_eq}
 use Rattle.std.specs.List.{AllByRecursion}
 use Rattle.std.specs.Cmp.Lexicographic.{same_text}
 use Rattle.std.proofs.lemmas.Bool.Decides.{nat_tests}
-use Rattle.nc_types.specs.Channel.{AreDistinct, owner_of, name_eq}
+use Rattle.nc_types.specs.Channel.{AreDistinct, owner_of}
 use Rattle.nc_types.specs.declared.start.Start.{Start}
 use Rattle.nc_types.specs.declared.start.Start.TheVariants.{Newest}
 use Rattle.nc_journal.specs.History.{own, onto}
@@ -72,10 +72,10 @@ joined_workers : (k : ℕ) (names : List (List ℕ)) (b : Board) → (fold (join
 joined_workers k [] b = refl
 joined_workers k (c ∷ names) b = joined_workers k names (joined k b c)
 
-name_apart : (d c : List ℕ) → d ≢ c → name_eq d c ≡ false
-name_apart d c other = by (name_eq d c) refl
+name_apart : (d c : List ℕ) → d ≢ c → bytes_eq d c ≡ false
+name_apart d c other = by (bytes_eq d c) refl
   where
-    by : (t : Bool) → name_eq d c ≡ t → t ≡ false
+    by : (t : Bool) → bytes_eq d c ≡ t → t ≡ false
     by true e = absurd (other (same_text d c (sym e)))
     by false e = refl
 
@@ -98,14 +98,14 @@ module _ (workers me : ℕ) (next : ℕ → ℕ) (k : ℕ) (h : List Event) wher
   numbers_other : (o : ℕ) (c d : List ℕ) (b : Board) → d ≢ c → edge_numbers k c (made_to o (own me (far (asked_edge k d 0 b)))) ≡ edge_numbers k c (made_to o (own me (far b)))
   numbers_other o c d b other =
       ap (λ (l : List Event). edge_numbers k c (made_to o (own me l))) (edge_far d b)
-      ∙ none_own me k o c (asking d b) (far b) (ap (λ (t : Bool). cond (t && name_eq d c) (b.next ∷ []) []) (eqb_self k) ∙ ap (λ (t : Bool). cond t (b.next ∷ []) []) (name_apart d c other))
+      ∙ none_own me k o c (asking d b) (far b) (ap (λ (t : Bool). cond (t && bytes_eq d c) (b.next ∷ []) []) (eqb_self k) ∙ ap (λ (t : Bool). cond t (b.next ∷ []) []) (name_apart d c other))
 
   numbers_later : (o : ℕ) (c : List ℕ) (names : List (List ℕ)) (b : Board) → AllByRecursion (λ other. other ≢ c) names → edge_numbers k c (made_to o (own me (far (edges_from k names b)))) ≡ edge_numbers k c (made_to o (own me (far b)))
   numbers_later o c [] b apart = refl
   numbers_later o c (d ∷ names) b apart = numbers_later o c names (asked_edge k d 0 b) apart.1 ∙ numbers_other o c d b apart.0
 
   edge_one : (number : ℕ) (c : List ℕ) → edge_numbers k c (lines.Edge number k c 0 ∷ []) ≡ number ∷ []
-  edge_one number c = ap (λ (t : Bool). cond (t && name_eq c c) (number ∷ []) []) (eqb_self k) ∙ ap (λ (t : Bool). cond t (number ∷ []) []) (name_self c)
+  edge_one number c = ap (λ (t : Bool). cond (t && bytes_eq c c) (number ∷ []) []) (eqb_self k) ∙ ap (λ (t : Bool). cond t (number ∷ []) []) (name_self c)
 
   number_made : (o to n number : ℕ) (c : List ℕ) (l : List Event) → to ≡ o → edge_numbers k c (made_to o (own me (Made me to n (lines.Edge number k c 0) ∷ l))) ≡ edge_numbers k c (made_to o (own me l)) ++ number ∷ []
   number_made o to n number c l at =

@@ -35,8 +35,8 @@ use Rattle.nc_spool.specs.Decide.{delivery, sending, fence_look, fence_looks, de
 use Rattle.nc_spool.specs.Depart.{other_names, names_with, left, left_by, member_gone, member_gone_by, gone}
 use Rattle.nc_spool.specs.Hear.{heeded, answered, answered_by, answered_at, noticed, noticed_at, noticed_by, noticed_place, emptied_at, emptied_by, emptied_place}
 use Rattle.nc_spool.specs.Newest.{begun, edges_from, asked_edge, edge_behind, edges_behind, second_by, answered_all, went_on, edge_heard_at, edge_answered, edge_answered_by}
-use Rattle.nc_spool_laws.specs.Closed.{IsSending}
-use Rattle.nc_spool_laws.specs.Standing.{AnyLast, AnyKey, AnyNews, AnyAnswer, AnyFind}
+use Rattle.nc_spool_laws.proofs.Closing.{IsSending}
+use Rattle.nc_spool_laws.specs.Attended.{AnyLast, AnyKey, AnyNews, AnyAnswer, AnyFind}
 use Rattle.nc_spool_laws.proofs.Lists.{all-append, all-found}
 use Rattle.nc_spool_laws.proofs.Walk.{entered-kept, decided-kept}
 use Rattle.nc_worker_state.specs.Deed.{told}

@@ -1,11 +1,11 @@
 -- What a history that goes on has of the edges of a subscriber, and by which numbers they were asked for.
 use Rattle.std.proofs.Common.{◌≡◌, inl, inr, ℕ, ◌+◌, Bool, true, false, cond, List, [], ◌∷◌, ◌++◌, Option, Some, None, refl, sym, ap, ◌∙◌, subst}
-use Rattle.std.specs.Prelude.{◌&&◌, ◌==◌}
+use Rattle.std.specs.Prelude.{◌&&◌, ◌==◌, bytes_eq}
 use Rattle.std.specs.List.{AllByRecursion}
 use Rattle.std.specs.Cmp.Lexicographic.{same_text}
 use Rattle.std.proofs.lemmas.Bool.{eqb-true, and_parts, cond_both}
 use Rattle.std.proofs.lemmas.List.{append-nil}
-use Rattle.nc_types.specs.Channel.{owner_of, name_eq}
+use Rattle.nc_types.specs.Channel.{owner_of}
 use Rattle.nc_journal.specs.Edges.{edges_of}
 use Rattle.nc_journal.specs.History.{own, is_by}
 use Rattle.nc_journal.specs.declared.event.Event.{Event}
@@ -40,7 +40,7 @@ use Rattle.nc_world_begins.specs.Knowing.{asked_numbers}
 
 pub numbers_join : (k : ℕ) (c : List ℕ) (xs ys : List AlertLine) → edge_numbers k c (xs ++ ys) ≡ edge_numbers k c xs ++ edge_numbers k c ys
 numbers_join k c [] ys = refl
-numbers_join k c (lines.Edge number n d fence ∷ xs) ys = by ((n == k) && name_eq d c) (numbers_join k c xs ys)
+numbers_join k c (lines.Edge number n d fence ∷ xs) ys = by ((n == k) && bytes_eq d c) (numbers_join k c xs ys)
   where
     by : (b : Bool) → edge_numbers k c (xs ++ ys) ≡ edge_numbers k c xs ++ edge_numbers k c ys
         → cond b (number ∷ edge_numbers k c (xs ++ ys)) (edge_numbers k c (xs ++ ys)) ≡ cond b (number ∷ edge_numbers k c xs) (edge_numbers k c xs) ++ edge_numbers k c ys
@@ -73,10 +73,10 @@ abbrev pub IsAskedIn : (k : ℕ) (c : List ℕ) → List Event → ℕ → Type 
 IsAskedIn k c l number = (fence : ℕ) × HasEdgeAsk number k c fence l
 
 line_asked : (k : ℕ) (c : List ℕ) (v to n : ℕ) (a : AlertLine) (l : List Event) → AllByRecursion (IsAskedIn k c (Made v to n a ∷ l)) (edge_numbers k c (a ∷ []))
-line_asked k c v to n (lines.Edge number j d f) l = by ((j == k) && name_eq d c) refl
+line_asked k c v to n (lines.Edge number j d f) l = by ((j == k) && bytes_eq d c) refl
   where
-    by : (b : Bool) → ((j == k) && name_eq d c) ≡ b → AllByRecursion (IsAskedIn k c (Made v to n (lines.Edge number j d f) ∷ l)) (cond b (number ∷ []) [])
-    by true was = let parts = and_parts (j == k) (name_eq d c) was in ((f, inl (refl, eqb-true j k parts.0, same_text d c (sym parts.1), refl)), tt)
+    by : (b : Bool) → ((j == k) && bytes_eq d c) ≡ b → AllByRecursion (IsAskedIn k c (Made v to n (lines.Edge number j d f) ∷ l)) (cond b (number ∷ []) [])
+    by true was = let parts = and_parts (j == k) (bytes_eq d c) was in ((f, inl (refl, eqb-true j k parts.0, same_text d c (sym parts.1), refl)), tt)
     by false was = tt
 line_asked k c v to n a l = tt
 
@@ -134,7 +134,7 @@ IsAside k (facts.Ended n deleted) = Unit {0}
 
 none_asked : (k : ℕ) (c : List ℕ) (ask : Ask) → asks_of k ask ≡ false → edge_numbers k c (ask_line ask ∷ []) ≡ []
 none_asked k c (asks.Look number d after fence) aside = refl
-none_asked k c (asks.Edge number j d fence) aside = ap (λ b. cond (b && name_eq d c) (number ∷ []) []) aside
+none_asked k c (asks.Edge number j d fence) aside = ap (λ b. cond (b && bytes_eq d c) (number ∷ []) []) aside
 none_asked k c (asks.Join d j) aside = refl
 none_asked k c (asks.Part d j) aside = refl
 

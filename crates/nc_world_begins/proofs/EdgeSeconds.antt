@@ -1,12 +1,12 @@
 -- The second edges that a start asks for: which numbers they add, and what it knows then.
 use Rattle.std.proofs.Common.{◌≡◌, ◌≢◌, inl, ℕ, zero, suc, ◌+◌, ◌<◌, ◌≤◌, Bool, true, false, cond, List, [], ◌∷◌, ◌++◌, length, map, Some, refl, sym, ap, ◌∙◌, subst, arith}
-use Rattle.std.specs.Prelude.{◌&&◌, ◌==◌, ◌||◌, slice_get, slice_index_or}
+use Rattle.std.specs.Prelude.{◌&&◌, ◌==◌, ◌||◌, slice_get, slice_index_or, bytes_eq}
 use Rattle.std.specs.List.{AllByRecursion}
 use Rattle.std.specs.Cmp.Lexicographic.{same_text}
 use Rattle.std.proofs.lemmas.Bool.Decides.{nat_tests}
 use Rattle.std.proofs.lemmas.List.{append-nil}
 use Rattle.nc_types.specs.Id.{Id, no_id}
-use Rattle.nc_types.specs.Channel.{AreDistinct, owner_of, name_eq}
+use Rattle.nc_types.specs.Channel.{AreDistinct, owner_of}
 use Rattle.nc_journal.specs.Edges.{edge_told, edges_of}
 use Rattle.nc_journal.specs.History.{own}
 use Rattle.nc_journal.specs.declared.event.Event.{Event}
@@ -25,7 +25,7 @@ use Rattle.nc_rests.proofs.Lists.{at_length, distinct_at}
 use Rattle.nc_rests.proofs.Looked.{name_self}
 use Rattle.nc_rests.proofs.Received.{eqb_self}
 use Rattle.nc_starts.specs.Asked.{edge_numbers, HasTold}
-use Rattle.nc_starts.specs.Told.{edge_last}
+use Rattle.nc_starts.specs.EdgesTold.{edge_last}
 use Rattle.nc_starts.proofs.Asked.{starts_know}
 use Rattle.nc_starts.proofs.Drawn.{edges_cursor}
 use Rattle.nc_world_edges.specs.Edges.{HasEdgeAsk}
@@ -49,10 +49,10 @@ at_index [] j c at = absurd cc
 at_index (d ∷ list) zero c at = cc
 at_index (d ∷ list) (suc j) c at = at_index list j c at
 
-other_name : (d c : List ℕ) → d ≢ c → name_eq d c ≡ false
-other_name d c other = by (name_eq d c) refl
+other_name : (d c : List ℕ) → d ≢ c → bytes_eq d c ≡ false
+other_name d c other = by (bytes_eq d c) refl
   where
-    by : (b : Bool) → name_eq d c ≡ b → b ≡ false
+    by : (b : Bool) → bytes_eq d c ≡ b → b ≡ false
     by true was = absurd (other (same_text d c (sym was)))
     by false was = refl
 
@@ -119,17 +119,17 @@ module _ (workers me : ℕ) (next : ℕ → ℕ) (h : List Event) (k time : ℕ)
   edge_here : (d : List ℕ) (b : Board) → b.workers ≡ workers → asked_numbers workers me k d (Upto (asked_edge k d time b)) ≡ asked_numbers workers me k d (Upto b) ++ b.next ∷ []
   edge_here d b same =
       let owner : (owner_of b.workers d == owner_of workers d) ≡ true = ap (λ (x : ℕ). owner_of x d == owner_of workers d) same ∙ eqb_self (owner_of workers d) in
-      let own_name : ((k == k) && name_eq d d) ≡ true = rw (eqb_self k, name_self d) refl in
+      let own_name : ((k == k) && bytes_eq d d) ≡ true = rw (eqb_self k, name_self d) refl in
       ap (asked_numbers workers me k d) (edge_upto d b)
       ∙ made_numbers workers me k d (owner_of b.workers d) (next_written me Answered next b.facts (owner_of b.workers d)) (lines.Edge b.next k d time) (Upto b)
       ∙ ap (λ t. asked_numbers workers me k d (Upto b) ++ cond t (edge_numbers k d (lines.Edge b.next k d time ∷ [])) []) owner
       ∙ ap (λ t. asked_numbers workers me k d (Upto b) ++ cond t (b.next ∷ []) []) own_name
 
-  edge_away : (c d : List ℕ) (b : Board) → name_eq d c ≡ false → asked_numbers workers me k c (Upto (asked_edge k d time b)) ≡ asked_numbers workers me k c (Upto b)
+  edge_away : (c d : List ℕ) (b : Board) → bytes_eq d c ≡ false → asked_numbers workers me k c (Upto (asked_edge k d time b)) ≡ asked_numbers workers me k c (Upto b)
   edge_away c d b other =
       ap (asked_numbers workers me k c) (edge_upto d b)
       ∙ made_numbers workers me k c (owner_of b.workers d) (next_written me Answered next b.facts (owner_of b.workers d)) (lines.Edge b.next k d time) (Upto b)
-      ∙ ap (λ (l : List ℕ). asked_numbers workers me k c (Upto b) ++ l) (none (owner_of b.workers d == owner_of workers c) (k == k) (name_eq d c) other)
+      ∙ ap (λ (l : List ℕ). asked_numbers workers me k c (Upto b) ++ l) (none (owner_of b.workers d == owner_of workers c) (k == k) (bytes_eq d c) other)
       ∙ append-nil (asked_numbers workers me k c (Upto b))
     where
       none : (x y z : Bool) → z ≡ false → cond x (cond (y && z) (b.next ∷ []) []) [] ≡ []
@@ -152,14 +152,14 @@ module _ (workers me : ℕ) (next : ℕ → ℕ) (h : List Event) (k time : ℕ)
       (subst (IsGrown me (Upto b)) (sym (written_append me Answered next b.facts a.facts h)) (grown_written me Answered (next_written me Answered next b.facts) a.facts (Upto b)))
 
   -- another channel's numbers stay
-  behind_away : (c d : List ℕ) (e : Edge) (b : Board) → name_eq d c ≡ false → asked_numbers workers me k c (Upto (edge_behind time k d e b)) ≡ asked_numbers workers me k c (Upto b)
+  behind_away : (c d : List ℕ) (e : Edge) (b : Board) → bytes_eq d c ≡ false → asked_numbers workers me k c (Upto (edge_behind time k d e b)) ≡ asked_numbers workers me k c (Upto b)
   behind_away c d e b other = by (is_behind time e)
     where
       by : (t : Bool) → asked_numbers workers me k c (Upto (cond t (asked_edge k d time b) b)) ≡ asked_numbers workers me k c (Upto b)
       by true = edge_away c d b other
       by false = refl
 
-  behinds_away : (c : List ℕ) (j : ℕ) (edges : List Edge) (b : Board) → ((i : ℕ) → j ≤ i → i < j + length edges → name_eq (slice_index_or list i []) c ≡ false)
+  behinds_away : (c : List ℕ) (j : ℕ) (edges : List Edge) (b : Board) → ((i : ℕ) → j ≤ i → i < j + length edges → bytes_eq (slice_index_or list i []) c ≡ false)
       → asked_numbers workers me k c (Upto (edges_behind time k list j edges b)) ≡ asked_numbers workers me k c (Upto b)
   behinds_away c j [] b others = refl
   behinds_away c j (e ∷ edges) b others =
@@ -182,7 +182,7 @@ module _ (workers me : ℕ) (next : ℕ → ℕ) (h : List Event) (k time : ℕ)
 
   module _ (distinct : AreDistinct list) where
     -- two places have two names
-    other_place : (i j : ℕ) (c : List ℕ) → slice_get list i ≡ Some c → j < length list → j ≢ i → name_eq (slice_index_or list j []) c ≡ false
+    other_place : (i j : ℕ) (c : List ℕ) → slice_get list i ≡ Some c → j < length list → j ≢ i → bytes_eq (slice_index_or list j []) c ≡ false
     other_place i j c at within apart = other_name (slice_index_or list j []) c (distinct_at list i j c (slice_index_or list j []) distinct at (index_at list j within) apart)
 
     -- so at each place, whatever is asked for at the others
@@ -226,7 +226,7 @@ module _ (workers me : ℕ) (next : ℕ → ℕ) (h : List Event) (k time : ℕ)
         further : slice_get list ((j + 1) + i) ≡ Some c
         further = let place : j + suc i ≡ (j + 1) + i = omega arith in subst (λ (m : ℕ). slice_get list m ≡ Some c) place at
 
-        apart : name_eq (slice_index_or list j []) c ≡ false
+        apart : bytes_eq (slice_index_or list j []) c ≡ false
         apart = other_place (j + suc i) j c at (omega (arith, within)) (λ is. absurd (omega (arith, is)))
 
         go : Placed workers me k time c (edge_behind time k (slice_index_or list j []) x b).next (Upto (edge_behind time k (slice_index_or list j []) x b)) (Upto (edges_behind time k list j (x ∷ edges) b)) e now

@@ -32,7 +32,7 @@ use Rattle.nc_rests.specs.Owners.{IsByOwner}
 use Rattle.nc_rests.proofs.Lists.{at_length}
 use Rattle.nc_rests.proofs.Received.{eqb_self}
 use Rattle.nc_starts.specs.Starts.{StartsThen, StartedThen}
-use Rattle.nc_starts.specs.Told.{Told, Once, Twice, edge_last}
+use Rattle.nc_starts.specs.EdgesTold.{EdgesTold, Once, Twice, edge_last}
 use Rattle.nc_starts.proofs.Asked.{starts_know}
 use Rattle.nc_starts.proofs.Drawn.{edges_cursor}
 use Rattle.nc_starts.proofs.Known.{told_starts}
@@ -62,21 +62,21 @@ module _ (workers me drawn : ℕ) (h : List Event) (give : EdgesGive workers me 
   fenced : (floor time : ℕ) → is_behind time (Known no_id floor) ≡ false → time ≤ floor
   fenced floor time is = grind (arith, nat_tests)
 
-  told_once : (k n floor time : ℕ) (c : List ℕ) (last first : Id) → edges_of me k c h ≡ edge_told n floor last ∷ [] → last ≡ first → time ≤ floor → Told time first (edges_of me k c h)
-  told_once k n floor time c last first are same fence = subst (Told time first) (sym are) (Once (edge_told n floor last) same fence)
+  told_once : (k n floor time : ℕ) (c : List ℕ) (last first : Id) → edges_of me k c h ≡ edge_told n floor last ∷ [] → last ≡ first → time ≤ floor → EdgesTold time first (edges_of me k c h)
+  told_once k n floor time c last first are same fence = subst (EdgesTold time first) (sym are) (Once (edge_told n floor last) same fence)
 
   -- a first edge whose floor isn't below the time is the only one
-  first_told : (k : ℕ) (c : List ℕ) (time : ℕ) (last : Id) (e : Edge) → is_awaited e ≡ false → is_behind time e ≡ false → edge_last e ≡ last → FirstEdge workers me k c h e → Told time last (edges_of me k c h)
+  first_told : (k : ℕ) (c : List ℕ) (time : ℕ) (last : Id) (e : Edge) → is_awaited e ≡ false → is_behind time e ≡ false → edge_last e ≡ last → FirstEdge workers me k c h e → EdgesTold time last (edges_of me k c h)
   first_told k c time last (Awaited x) told behind same known = absurd cc
   first_told k c time last (Known l f) told behind same (FirstKnown n floor id asks has) =
       told_once k n floor time c id last ((starts_know workers me k c h (give.done k c)).once n (edge_told n floor id) asks has) same (fenced floor time behind)
 
   -- with a cursor there is one that isn't, or a second one
-  second_told : (k : ℕ) (c : List ℕ) (time : ℕ) (last : Id) (e : Edge) → is_awaited e ≡ false → SecondEdge workers me k c time last h e → Told time last (edges_of me k c h)
+  second_told : (k : ℕ) (c : List ℕ) (time : ℕ) (last : Id) (e : Edge) → is_awaited e ≡ false → SecondEdge workers me k c time last h e → EdgesTold time last (edges_of me k c h)
   second_told k c time last (Awaited x) told known = absurd cc
   second_told k c time last (Known l f) told (StillKnown n floor asks has fence) = told_once k n floor time c last last ((starts_know workers me k c h (give.done k c)).once n (edge_told n floor last) asks has) refl fence
   second_told k c time last (Known l f) told (SecondKnown n floor m later last_later asks apart first below has fence) =
-      subst (Told time last) (sym ((starts_know workers me k c h (give.done k c)).twice n m (edge_told n floor last) (edge_told m later last_later) asks first has apart))
+      subst (EdgesTold time last) (sym ((starts_know workers me k c h (give.done k c)).twice n m (edge_told n floor last) (edge_told m later last_later) asks first has apart))
       (Twice (edge_told m later last_later) (edge_told n floor last) refl below fence)
 
   -- h1 is the one with the answer, with the same edges
@@ -88,7 +88,7 @@ module _ (workers me drawn : ℕ) (h : List Event) (give : EdgesGive workers me 
         subst (λ (cur : CursorAt). StartsByEdges workers me k list cur h1) (sym (edges_cursor edges))
         (told_starts workers me k list (map edge_last edges) h1 by_owner (map_length edges ∙ each) (λ j c last at_list at_lasts.
         let e = at_length list edges j c each at_list in
-        subst (Told (greatest_time (map edge_last edges)) last) (sym (same k c))
+        subst (EdgesTold (greatest_time (map edge_last edges)) last) (sym (same k c))
         (first_told k c (greatest_time (map edge_last edges)) last e.0 (fails_at is_awaited edges j e.0 told e.1)
         (subst (λ (time : ℕ). is_behind time e.0 ≡ false) (ap (λ (cur : CursorAt). cur.time) (edges_cursor edges)) (fails_at (is_behind (newest_cursor edges).time) edges j e.0 behind e.1))
         (map_at edge_last edges j e.0 last e.1 at_lasts) (known j c e.0 at_list e.1))))
@@ -102,7 +102,7 @@ module _ (workers me drawn : ℕ) (h : List Event) (give : EdgesGive workers me 
         subst (λ (x : CursorAt). StartsByEdges workers me k list x h1) (sym known.cursor)
         (told_starts workers me k list known.lasts h1 by_owner known.lasts_each (λ j c last at_list at_lasts.
         let e = at_length list edges j c each at_list in
-        subst (Told (greatest_time known.lasts) last) (sym (same k c))
+        subst (EdgesTold (greatest_time known.lasts) last) (sym (same k c))
         (second_told k c (greatest_time known.lasts) last e.0 (fails_at is_awaited edges j e.0 told e.1)
         (subst (λ (time : ℕ). SecondEdge workers me k c time last h e.0) (ap (λ (x : CursorAt). x.time) known.cursor) (known.each j c last e.0 at_list at_lasts e.1)))))
 

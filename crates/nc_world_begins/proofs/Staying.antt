@@ -1,11 +1,11 @@
 -- What stays of the edges that a subscriber asked for, and of those that were told for it, as a history goes on; so what its start knows stays.
 use Rattle.std.proofs.Common.{◌≡◌, inr, ℕ, Bool, true, false, cond, List, [], ◌∷◌, ◌++◌, Option, Some, None, refl, ap, ◌∙◌}
-use Rattle.std.specs.Prelude.{◌==◌, ◌&&◌}
+use Rattle.std.specs.Prelude.{◌==◌, ◌&&◌, bytes_eq}
 use Rattle.std.specs.List.{AllByRecursion}
 use Rattle.std.proofs.lemmas.List.{append-nil}
 use Rattle.nc_types.specs.Id.{Id}
 use Rattle.nc_types.specs.Cursor.{CursorAt}
-use Rattle.nc_types.specs.Channel.{owner_of, name_eq}
+use Rattle.nc_types.specs.Channel.{owner_of}
 use Rattle.nc_journal.specs.Edges.{EdgeTold, edge_told, edges_of}
 use Rattle.nc_journal.specs.History.{own, onto, is_by}
 use Rattle.nc_journal.specs.declared.event.Event.{Event}
@@ -17,7 +17,7 @@ use Rattle.nc_spool_state.specs.declared.edge.Edge.{Edge}
 use Rattle.nc_spool_state.specs.Starting.{StartingAt}
 use Rattle.nc_starts.specs.Asked.{edge_numbers, HasTold, IsFirstEdge}
 use Rattle.nc_starts.proofs.Asked.{first_stays}
-use Rattle.nc_world_laws.specs.Kinds.{IsBy}
+use Rattle.nc_world_laws.proofs.WorkerKinds.{IsBy}
 use Rattle.nc_world_laws.proofs.Local.{either, other_by}
 use Rattle.nc_world_edges.specs.Edges.{HasEdgeAsk}
 use Rattle.nc_world_begins.specs.Knowing.{FirstEdge, FirstAwaited, FirstKnown, SecondEdge, StillKnown, SecondAwaited, SecondKnown, EdgesKnown, StartHolds}
@@ -27,7 +27,7 @@ use Rattle.nc_world_begins.specs.Calls.{Unasked}
 
 pub numbers_behind : (k : ℕ) (c : List ℕ) (xs ys : List AlertLine) → edge_numbers k c (xs ++ ys) ≡ edge_numbers k c xs ++ edge_numbers k c ys
 numbers_behind k c [] ys = refl
-numbers_behind k c (lines.Edge number n d fence ∷ xs) ys = by ((n == k) && name_eq d c) (numbers_behind k c xs ys)
+numbers_behind k c (lines.Edge number n d fence ∷ xs) ys = by ((n == k) && bytes_eq d c) (numbers_behind k c xs ys)
   where
     by : (b : Bool) → edge_numbers k c (xs ++ ys) ≡ edge_numbers k c xs ++ edge_numbers k c ys → cond b (number ∷ edge_numbers k c (xs ++ ys)) (edge_numbers k c (xs ++ ys)) ≡ cond b (number ∷ edge_numbers k c xs) (edge_numbers k c xs) ++ edge_numbers k c ys
     by true is = ap (λ (l : List ℕ). number ∷ l) is
@@ -49,7 +49,7 @@ MakesBeside k (Made v to n a) = IsBeside k a
 MakesBeside k _ = Unit {0}
 
 line_none : (k : ℕ) (c : List ℕ) (a : AlertLine) → IsBeside k a → edge_numbers k c (a ∷ []) ≡ []
-line_none k c (lines.Edge number j d fence) p = ap (λ b. cond (b && name_eq d c) (number ∷ []) []) p
+line_none k c (lines.Edge number j d fence) p = ap (λ b. cond (b && bytes_eq d c) (number ∷ []) []) p
 line_none k c a p = refl
 
 beside_none : (k : ℕ) (c : List ℕ) (e : Event) → MakesBeside k e → AsksNone k c e
@@ -87,7 +87,7 @@ told_case true t x ts has = inr has
 told_case false t x ts has = has
 
 pub told_stays : (w k : ℕ) (c : List ℕ) (t : EdgeTold) (e : Event) (h : List Event) → HasTold t (edges_of w k c h) → HasTold t (edges_of w k c (e ∷ h))
-told_stays w k c t (Edged v q from number n d floor last) h has = told_case ((from == w) && ((n == k) && name_eq d c)) t (edge_told number floor last) (edges_of w k c h) has
+told_stays w k c t (Edged v q from number n d floor last) h has = told_case ((from == w) && ((n == k) && bytes_eq d c)) t (edge_told number floor last) (edges_of w k c h) has
 told_stays w k c t e h has = has
 
 -- ---- all three, for a subscriber of a worker

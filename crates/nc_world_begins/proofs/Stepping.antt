@@ -38,7 +38,7 @@ use Rattle.nc_world.specs.World.{World, handled_events, handled}
 use Rattle.nc_world.specs.Moves.{carried_one}
 use Rattle.nc_world.specs.Reached.{IsSetup, Comes, IsInput, Reached}
 use Rattle.nc_world_laws.specs.Good.{Good}
-use Rattle.nc_world_laws.specs.WorldTheme.{IsWorldTheme}
+use Rattle.nc_world_laws.proofs.WorldTheme.{IsWorldTheme}
 use Rattle.nc_world_laws.proofs.Local.{either, eq_of}
 use Rattle.nc_world_laws.proofs.Acting.{with_all}
 use Rattle.nc_world_laws.proofs.Frames.{handled_onto}

@@ -26,13 +26,16 @@ ReachedHasStarts = (setup : Setup) (h : List Event) (world : World) → IsSetup 
 
 -- whom the answer to an edge starts, it starts by its edges
 abbrev pub AnswersStart : Type 0
-AnswersStart = (setup : Setup) (h : List Event) (world : World) → IsSetup setup → Reached setup h world → (w from n number q floor : ℕ) (last : Id) (kind : AlertKind) (next : ℕ → ℕ)
+AnswersStart = (setup : Setup) (h : List Event) (world : World) → IsSetup setup → Reached setup h world
+    → (w from n number q floor : ℕ) (last : Id) (kind : AlertKind) (next : ℕ → ℕ)
     → IsNext from w (EdgeAnswer number q floor last) h → Along (StartedThen setup.workers) h
     → Along (StartedThen setup.workers) (after_edge w from n kind next number floor last (world.workers w).desk.spools h)
 
 -- where nothing is pending nobody is starting: by the spools, and by the journal
 abbrev pub RestedStarts : Type 0
-RestedStarts = (setup : Setup) (h : List Event) (world : World) → IsSetup setup → Reached setup h world → ((v w : ℕ) → pending v w h ≡ []) → (w : ℕ) → starts_at world w ≡ []
+RestedStarts = (setup : Setup) (h : List Event) (world : World) → IsSetup setup → Reached setup h world → ((v w : ℕ) → pending v w h ≡ [])
+    → (w : ℕ) → starts_at world w ≡ []
 
 abbrev pub NobodyStartsAtRest : Type 0
-NobodyStartsAtRest = (setup : Setup) (h : List Event) (world : World) → IsSetup setup → Reached setup h world → ((v w : ℕ) → pending v w h ≡ []) → (w k : ℕ) → IsStarting (stage_of k (own w h)) → ⊥
+NobodyStartsAtRest = (setup : Setup) (h : List Event) (world : World) → IsSetup setup → Reached setup h world → ((v w : ℕ) → pending v w h ≡ [])
+    → (w k : ℕ) → IsStarting (stage_of k (own w h)) → ⊥

@@ -22,26 +22,32 @@ asked_numbers workers w k c h = edge_numbers k c (made_to (owner_of workers c) (
 -- until each first edge was answered: one edge was asked for, behind no fence, and is awaited, or was told
 pub data FirstEdge (workers w k : ℕ) (c : List ℕ) (h : List Event) : Edge → Type 0 where
   FirstAwaited : (n : ℕ) → asked_numbers workers w k c h ≡ n ∷ [] → HasEdgeAsk n k c 0 (own w h) → FirstEdge workers w k c h (Awaited n)
-  FirstKnown : (n floor : ℕ) (last : Id) → asked_numbers workers w k c h ≡ n ∷ [] → HasTold (edge_told n floor last) (edges_of w k c h) → FirstEdge workers w k c h (Known last floor)
+  FirstKnown : (n floor : ℕ) (last : Id) → asked_numbers workers w k c h ≡ n ∷ [] → HasTold (edge_told n floor last) (edges_of w k c h)
+      → FirstEdge workers w k c h (Known last floor)
 
 -- then, with the cursor's time: the first edge's floor isn't below it; or it is, and a second edge behind this time is awaited, or was told.
 -- `last` is the id that the first one told
 pub data SecondEdge (workers w k : ℕ) (c : List ℕ) (time : ℕ) (last : Id) (h : List Event) : Edge → Type 0 where
-  StillKnown : (n floor : ℕ) → asked_numbers workers w k c h ≡ n ∷ [] → HasTold (edge_told n floor last) (edges_of w k c h) → time ≤ floor → SecondEdge workers w k c time last h (Known last floor)
-  SecondAwaited : (n floor m : ℕ) → asked_numbers workers w k c h ≡ n ∷ m ∷ [] → n ≢ m → IsFirstEdge (edge_told n floor last) (edges_of w k c h) → floor < time → HasEdgeAsk m k c time (own w h)
+  StillKnown : (n floor : ℕ) → asked_numbers workers w k c h ≡ n ∷ [] → HasTold (edge_told n floor last) (edges_of w k c h) → time ≤ floor
+      → SecondEdge workers w k c time last h (Known last floor)
+  SecondAwaited : (n floor m : ℕ) → asked_numbers workers w k c h ≡ n ∷ m ∷ [] → n ≢ m → IsFirstEdge (edge_told n floor last) (edges_of w k c h)
+      → floor < time → HasEdgeAsk m k c time (own w h)
       → SecondEdge workers w k c time last h (Awaited m)
-  SecondKnown : (n floor m later : ℕ) (last_later : Id) → asked_numbers workers w k c h ≡ n ∷ m ∷ [] → n ≢ m → IsFirstEdge (edge_told n floor last) (edges_of w k c h) → floor < time
+  SecondKnown : (n floor m later : ℕ) (last_later : Id) → asked_numbers workers w k c h ≡ n ∷ m ∷ [] → n ≢ m
+      → IsFirstEdge (edge_told n floor last) (edges_of w k c h) → floor < time
       → HasTold (edge_told m later last_later) (edges_of w k c h) → time ≤ later → SecondEdge workers w k c time last h (Known last_later later)
 
 -- so at each place of a list
 abbrev pub FirstEdges : (workers w k : ℕ) → List (List ℕ) → List Edge → List Event → Type 0
-FirstEdges workers w k list edges h = (j : ℕ) (c : List ℕ) (e : Edge) → slice_get list j ≡ Some c → slice_get edges j ≡ Some e → FirstEdge workers w k c h e
+FirstEdges workers w k list edges h = (j : ℕ) (c : List ℕ) (e : Edge) → slice_get list j ≡ Some c → slice_get edges j ≡ Some e
+    → FirstEdge workers w k c h e
 
 pub record SecondEdges (workers w k : ℕ) (list : List (List ℕ)) (cur : CursorAt) (edges : List Edge) (h : List Event) : Type 0 where
   pub lasts : List Id
   pub lasts_each : length lasts ≡ length list
   pub cursor : cur ≡ cursor_behind lasts
-  pub each : (j : ℕ) (c : List ℕ) (last : Id) (e : Edge) → slice_get list j ≡ Some c → slice_get lasts j ≡ Some last → slice_get edges j ≡ Some e → SecondEdge workers w k c cur.time last h e
+  pub each : (j : ℕ) (c : List ℕ) (last : Id) (e : Edge) → slice_get list j ≡ Some c → slice_get lasts j ≡ Some last
+      → slice_get edges j ≡ Some e → SecondEdge workers w k c cur.time last h e
 
 -- with a cursor, or before there is one
 abbrev pub EdgesKnown : (workers w k : ℕ) → List (List ℕ) → Option CursorAt → List Edge → List Event → Type 0

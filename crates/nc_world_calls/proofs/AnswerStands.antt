@@ -22,14 +22,14 @@ use Rattle.nc_spool_laws.proofs.Totals.{total-without}
 use Rattle.nc_world_told.specs.Written.{written}
 use Rattle.nc_world_told.specs.Readers.{StandHere, IsNotIn}
 use Rattle.nc_world_told.proofs.Written.{written_is}
-use Rattle.nc_world_told.proofs.Staying.{Fits, decided_fits, once_in, apart_from, all_both}
+use Rattle.nc_world_told.proofs.Staying.{StandsApart, decided_fits, once_in, apart_from, all_both}
 use Rattle.nc_world_calls.specs.Answering.{AnswerStands}
 use Rattle.nc_world_calls.proofs.Answering.{took_stands}
 
 pub answer_stands : AnswerStands
 answer_stands me from n number q floor kind found next h s singly stand =
     subst (λ (l : List Event). AllByRecursion (λ (x : SpoolAt). StandHere me x l) (answered number quiet news (board_of s)).shelf) (written_is me Answered next (answer_facts number q floor found s) (Took me from n kind ∷ h))
-    (all-changed (Fits me Answered next (Took me from n kind ∷ h) (answered number quiet news (board_of s)).facts []) (λ (x : SpoolAt). StandHere me x (written me Answered next (answered number quiet news (board_of s)).facts (Took me from n kind ∷ h))) (answered number quiet news (board_of s)).shelf (λ x f. f.0)
+    (all-changed (StandsApart me Answered next (Took me from n kind ∷ h) (answered number quiet news (board_of s)).facts []) (λ (x : SpoolAt). StandHere me x (written me Answered next (answered number quiet news (board_of s)).facts (Took me from n kind ∷ h))) (answered number quiet news (board_of s)).shelf (λ x f. f.0)
     (by (find (awaits number) s.shelf) refl))
   where
     few : (k : ℕ) → total (readers_of k) s.shelf ≤ 1
@@ -47,12 +47,12 @@ answer_stands me from n number q floor kind found next h s singly stand =
     now : AllByRecursion (λ (x : SpoolAt). StandHere me x (Took me from n kind ∷ h)) s.shelf
     now = all-changed (λ (x : SpoolAt). StandHere me x h) (λ (x : SpoolAt). StandHere me x (Took me from n kind ∷ h)) s.shelf (λ x f. took_stands me from n kind h x.key x.readers f) stand
 
-    bare : AllByRecursion (Fits me Answered next (Took me from n kind ∷ h) [] []) s.shelf
-    bare = all-changed (λ (x : SpoolAt). StandHere me x (Took me from n kind ∷ h)) (Fits me Answered next (Took me from n kind ∷ h) [] []) s.shelf (λ x f. (f, tt)) now
+    bare : AllByRecursion (StandsApart me Answered next (Took me from n kind ∷ h) [] []) s.shelf
+    bare = all-changed (λ (x : SpoolAt). StandHere me x (Took me from n kind ∷ h)) (StandsApart me Answered next (Took me from n kind ∷ h) [] []) s.shelf (λ x f. (f, tt)) now
 
-    at : (x : SpoolAt) → find (awaits number) s.shelf ≡ Some x → (o : Option ℕ) → AllByRecursion (Fits me Answered next (Took me from n kind ∷ h) (answered_at o (record { q = q; floor = floor }) (option_map news_of found) x (record (board_of s) { shelf = without_first (awaits number) s.shelf })).facts []) (answered_at o (record { q = q; floor = floor }) (option_map news_of found) x (record (board_of s) { shelf = without_first (awaits number) s.shelf })).shelf
-    at x was None = all-insert (Fits me Answered next (Took me from n kind ∷ h) [] []) (without_first (awaits number) s.shelf) (place_before x.key (without_first (awaits number) s.shelf)) x
-        (all-found (Fits me Answered next (Took me from n kind ∷ h) [] []) (awaits number) s.shelf x was bare) (all-without (Fits me Answered next (Took me from n kind ∷ h) [] []) (awaits number) s.shelf bare)
+    at : (x : SpoolAt) → find (awaits number) s.shelf ≡ Some x → (o : Option ℕ) → AllByRecursion (StandsApart me Answered next (Took me from n kind ∷ h) (answered_at o (record { q = q; floor = floor }) (option_map news_of found) x (record (board_of s) { shelf = without_first (awaits number) s.shelf })).facts []) (answered_at o (record { q = q; floor = floor }) (option_map news_of found) x (record (board_of s) { shelf = without_first (awaits number) s.shelf })).shelf
+    at x was None = all-insert (StandsApart me Answered next (Took me from n kind ∷ h) [] []) (without_first (awaits number) s.shelf) (place_before x.key (without_first (awaits number) s.shelf)) x
+        (all-found (StandsApart me Answered next (Took me from n kind ∷ h) [] []) (awaits number) s.shelf x was bare) (all-without (StandsApart me Answered next (Took me from n kind ∷ h) [] []) (awaits number) s.shelf bare)
     at x was (Some j) =
         decided_fits me Answered next (Took me from n kind ∷ h) (with_place j (learned (id_at x.key j) (record { q = q; floor = floor }) (option_map news_of found)) x) (record (board_of s) { shelf = without_first (awaits number) s.shelf })
         (once_in x.readers (λ k. let c = total-without (readers_of k) (awaits number) s.shelf x was in let f = few k in omega (arith, c, f)))
@@ -61,6 +61,6 @@ answer_stands me from n number q floor kind found next h s singly stand =
         (all-without (λ (y : SpoolAt). StandHere me y (Took me from n kind ∷ h)) (awaits number) s.shelf now)
         (apart_from x.readers (without_first (awaits number) s.shelf) (without_first (awaits number) s.shelf) (λ k. let c = total-without (readers_of k) (awaits number) s.shelf x was in let f = few k in omega (arith, c, f)) (λ k. omega arith)))
 
-    by : (o : Option SpoolAt) → find (awaits number) s.shelf ≡ o → AllByRecursion (Fits me Answered next (Took me from n kind ∷ h) (answered_by o number (record { q = q; floor = floor }) (option_map news_of found) (record (board_of s) { shelf = without_first (awaits number) s.shelf })).facts []) (answered_by o number (record { q = q; floor = floor }) (option_map news_of found) (record (board_of s) { shelf = without_first (awaits number) s.shelf })).shelf
-    by None was = all-without (Fits me Answered next (Took me from n kind ∷ h) [] []) (awaits number) s.shelf bare
+    by : (o : Option SpoolAt) → find (awaits number) s.shelf ≡ o → AllByRecursion (StandsApart me Answered next (Took me from n kind ∷ h) (answered_by o number (record { q = q; floor = floor }) (option_map news_of found) (record (board_of s) { shelf = without_first (awaits number) s.shelf })).facts []) (answered_by o number (record { q = q; floor = floor }) (option_map news_of found) (record (board_of s) { shelf = without_first (awaits number) s.shelf })).shelf
+    by None was = all-without (StandsApart me Answered next (Took me from n kind ∷ h) [] []) (awaits number) s.shelf bare
     by (Some x) was = at x was (place_awaiting number x.places)

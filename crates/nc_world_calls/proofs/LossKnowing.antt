@@ -1,8 +1,9 @@
 -- After the step on a channel that is gone the places of spools hold.
+use Rattle.std.specs.Prelude.{bytes_eq}
 use Rattle.std.proofs.Common.{◌≡◌, ℕ, true, false, List, ◌∷◌, None, sym, ap, ◌∙◌, subst, arith}
 use Rattle.std.specs.List.{AllByRecursion}
 use Rattle.nc_types.specs.Id.{Id}
-use Rattle.nc_types.specs.Channel.{owner_of, name_eq}
+use Rattle.nc_types.specs.Channel.{owner_of}
 use Rattle.nc_journal.specs.History.{own}
 use Rattle.nc_journal.specs.declared.event.Event.{Event}
 use Rattle.nc_journal.specs.declared.event.Event.TheVariants.{Took}
@@ -15,7 +16,7 @@ use Rattle.nc_spool.specs.Calls.{board_of, gone_facts, gone_after}
 use Rattle.nc_spool_laws.specs.Hearing.{Heard}
 use Rattle.nc_spool_laws.specs.Keys.{SpoolFits}
 use Rattle.nc_spool_laws.specs.Knowing.{IsKnowing}
-use Rattle.nc_spool_laws.specs.Standing.{IsWhole}
+use Rattle.nc_spool_laws.specs.Attended.{IsWhole}
 use Rattle.nc_spool_laws.proofs.Heeding.{all-heard}
 use Rattle.nc_spool_laws.proofs.Knowledge.{knowing-kept}
 use Rattle.nc_spool_laws.proofs.Lists.{all-changed}
@@ -39,11 +40,11 @@ loss_knows workers me n c subs kind next h s is order whole fits holds =
     subst (λ (l : List Event). AllByRecursion (PlacesHold workers me l) (gone_after c subs s).shelf) (written_is me Deleted next (gone_facts c subs s) (Took me (owner_of workers c) n kind ∷ h)) at_end
   where
     -- an answer of nothing rests at any other channel
-    late : (d : List ℕ) (after : Id) (quiet : Quiet) → name_eq d c ≡ false → RestsAt workers me d after (Nothing quiet.q quiet.floor) h → RestsAt workers me d after (Nothing quiet.q quiet.floor) (written me Deleted next (gone_facts c subs s) (Took me (owner_of workers c) n kind ∷ h))
+    late : (d : List ℕ) (after : Id) (quiet : Quiet) → bytes_eq d c ≡ false → RestsAt workers me d after (Nothing quiet.q quiet.floor) h → RestsAt workers me d after (Nothing quiet.q quiet.floor) (written me Deleted next (gone_facts c subs s) (Took me (owner_of workers c) n kind ∷ h))
     late d after quiet other k =
         place_written workers me d after (places.Nothing quiet) me Deleted next (gone_facts c subs s) (Took me (owner_of workers c) n kind ∷ h)
         (take_keeps workers me d after (Nothing quiet.q quiet.floor) (owner_of workers c) n kind (Gone c subs) h is
-        (λ _. unlike c d (λ e. let x : true ≡ false = sym (name_self c) ∙ ap (λ (m : List ℕ). name_eq m c) (sym e) ∙ other in absurd cc)) k)
+        (λ _. unlike c d (λ e. let x : true ≡ false = sym (name_self c) ∙ ap (λ (m : List ℕ). bytes_eq m c) (sym e) ∙ other in absurd cc)) k)
 
     -- what was found is found, also at this one
     found_late : (d : List ℕ) (after : Id) (q : ℕ) (id : Id) → RestsAt workers me d after (Finds q id) h → RestsAt workers me d after (Finds q id) (written me Deleted next (gone_facts c subs s) (Took me (owner_of workers c) n kind ∷ h))

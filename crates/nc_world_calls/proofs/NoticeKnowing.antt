@@ -1,10 +1,11 @@
 -- After the step of a notice the places of spools hold.
+use Rattle.std.specs.Prelude.{bytes_eq}
 use Rattle.std.proofs.Common.{◌≡◌, ℕ, ◌<◌, Bool, true, false, cond, ltb, List, [], ◌∷◌, Some, None, refl, sym, ap, ◌∙◌, subst, arith, length, get_or}
 use Rattle.std.specs.List.{AllByRecursion, position_or_len}
 use Rattle.std.proofs.lemmas.Bool.Decides.{nat_tests}
 use Rattle.std.proofs.lemmas.List.Sums.{position_or_len_is}
 use Rattle.nc_types.specs.Id.{Id, is_past}
-use Rattle.nc_types.specs.Channel.{owner_of, name_eq, AreDistinct}
+use Rattle.nc_types.specs.Channel.{owner_of, AreDistinct}
 use Rattle.nc_journal.specs.History.{own}
 use Rattle.nc_journal.specs.declared.event.Event.{Event}
 use Rattle.nc_journal.specs.declared.event.Event.TheVariants.{Took}
@@ -23,7 +24,7 @@ use Rattle.nc_spool_laws.specs.Keys.{SpoolFits}
 use Rattle.nc_spool_laws.specs.Knowing.{Knows, IsKnowing}
 use Rattle.nc_spool_laws.proofs.Heeding.{all-heard}
 use Rattle.nc_spool_laws.proofs.Knowledge.{same-name, knowing-kept}
-use Rattle.nc_spool_laws.specs.Standing.{IsWhole}
+use Rattle.nc_spool_laws.specs.Attended.{IsWhole}
 use Rattle.nc_spool_laws.proofs.Lists.{all-changed}
 use Rattle.nc_spool_laws.proofs.Local.{whole-kept}
 use Rattle.nc_rests.specs.Asking.{HasAsk}
@@ -44,10 +45,10 @@ use Rattle.nc_world_calls.proofs.Noticing.{name_there, unlike}
 
 -- ---- the one place of a channel
 
-place_named : (c : List ℕ) (list : List (List ℕ)) (j : ℕ) → AreDistinct list → j < length list → name_eq (get_or list j []) c ≡ true → position_or_len (λ name. name_eq name c) list ≡ j
-place_named c list j d l e = position_or_len_is (λ name. name_eq name c) list j [] (omega (arith, l)) (λ k lt. by k lt (name_eq (get_or list k []) c) refl) (λ _. e)
+place_named : (c : List ℕ) (list : List (List ℕ)) (j : ℕ) → AreDistinct list → j < length list → bytes_eq (get_or list j []) c ≡ true → position_or_len (λ name. bytes_eq name c) list ≡ j
+place_named c list j d l e = position_or_len_is (λ name. bytes_eq name c) list j [] (omega (arith, l)) (λ k lt. by k lt (bytes_eq (get_or list k []) c) refl) (λ _. e)
   where
-    by : (k : ℕ) → k < j → (t : Bool) → name_eq (get_or list k []) c ≡ t → t ≡ false
+    by : (k : ℕ) → k < j → (t : Bool) → bytes_eq (get_or list k []) c ≡ t → t ≡ false
     by k lt true t =
         absurd (distinct_at list j k (get_or list j []) (get_or list k []) d (name_there list j l) (name_there list k (omega (arith, l, lt))) (λ same. omega (arith, lt, same))
         (same-name (get_or list k []) c t ∙ sym (same-name (get_or list j []) c e)))
@@ -57,7 +58,7 @@ within_list : (j n : ℕ) → j < n → ltb j n ≡ true
 within_list j n l = grind (arith, nat_tests, l)
 
 -- where a spool heard of a channel, its place of that channel rests on no older answer
-pub heard_place : (c : List ℕ) (x : SpoolAt) (j : ℕ) → Heard c x → AreDistinct x.key.list → j < length x.key.list → name_eq (name_at x.key j) c ≡ true → has_answer (place_at x j) ≡ false
+pub heard_place : (c : List ℕ) (x : SpoolAt) (j : ℕ) → Heard c x → AreDistinct x.key.list → j < length x.key.list → bytes_eq (name_at x.key j) c ≡ true → has_answer (place_at x j) ≡ false
 heard_place c x j heard d l e =
     heard j (ap (λ (p : ℕ). cond (ltb p (length x.key.list)) (Some p) None) (place_named c x.key.list j d l e) ∙ ap (λ b. cond b (Some j) None) (within_list j (length x.key.list) l))
 
@@ -70,29 +71,29 @@ module _ (workers me : ℕ) (c : List ℕ) (h l : List Event) where
   RestedBy false d after quiet = RestsAt workers me d after (Nothing quiet.q quiet.floor) l
 
   abbrev pub RestedHere : List ℕ → Id → Quiet → Type 0
-  RestedHere d after quiet = RestedBy (name_eq d c) d after quiet
+  RestedHere d after quiet = RestedBy (bytes_eq d c) d after quiet
 
-  module _ (late : (d : List ℕ) (after : Id) (quiet : Quiet) → name_eq d c ≡ false → RestsAt workers me d after (Nothing quiet.q quiet.floor) h → RestsAt workers me d after (Nothing quiet.q quiet.floor) l)
+  module _ (late : (d : List ℕ) (after : Id) (quiet : Quiet) → bytes_eq d c ≡ false → RestsAt workers me d after (Nothing quiet.q quiet.floor) h → RestsAt workers me d after (Nothing quiet.q quiet.floor) l)
       (found_late : (d : List ℕ) (after : Id) (q : ℕ) (id : Id) → RestsAt workers me d after (Finds q id) h → RestsAt workers me d after (Finds q id) l)
       (asked_late : (number : ℕ) (d : List ℕ) (after : Id) → HasAsk number d after (own me h) → HasAsk number d after (own me l)) where
-    rested_late : (b : Bool) (d : List ℕ) (after : Id) (quiet : Quiet) → name_eq d c ≡ b → RestsAt workers me d after (Nothing quiet.q quiet.floor) h → RestedBy b d after quiet
+    rested_late : (b : Bool) (d : List ℕ) (after : Id) (quiet : Quiet) → bytes_eq d c ≡ b → RestsAt workers me d after (Nothing quiet.q quiet.floor) h → RestedBy b d after quiet
     rested_late true d after quiet e k = k
     rested_late false d after quiet e k = late d after quiet e k
 
     pub knows_at : (d : List ℕ) (after : Id) (p : Place) → PlaceHolds workers me d after p h → Knows (Was workers me l) RestedHere (Came workers me l) d after p
     knows_at d after (places.Asked number None) k = asked_late number d after k.0
-    knows_at d after (places.Asked number (Some quiet)) k = (asked_late number d after k.0, rested_late (name_eq d c) d after quiet refl k.1)
-    knows_at d after (places.Nothing quiet) k = rested_late (name_eq d c) d after quiet refl k
+    knows_at d after (places.Asked number (Some quiet)) k = (asked_late number d after k.0, rested_late (bytes_eq d c) d after quiet refl k.1)
+    knows_at d after (places.Nothing quiet) k = rested_late (bytes_eq d c) d after quiet refl k
     knows_at d after (places.Found q id owner g) k = found_late d after q id k
 
   rests_now : (b : Bool) (d : List ℕ) (after : Id) (quiet : Quiet) → (b ≡ true → ⊥) → RestedBy b d after quiet → RestsAt workers me d after (Nothing quiet.q quiet.floor) l
   rests_now true d after quiet other k = absurd (other refl)
   rests_now false d after quiet other k = k
 
-  pub holds_at : (d : List ℕ) (after : Id) (p : Place) → (name_eq d c ≡ true → has_answer p ≡ false) → Knows (Was workers me l) RestedHere (Came workers me l) d after p → PlaceHolds workers me d after p l
+  pub holds_at : (d : List ℕ) (after : Id) (p : Place) → (bytes_eq d c ≡ true → has_answer p ≡ false) → Knows (Was workers me l) RestedHere (Came workers me l) d after p → PlaceHolds workers me d after p l
   holds_at d after (places.Asked number None) heard k = (k, tt)
-  holds_at d after (places.Asked number (Some quiet)) heard k = (k.0, rests_now (name_eq d c) d after quiet (λ e. let x : true ≡ false = heard e in absurd cc) k.1)
-  holds_at d after (places.Nothing quiet) heard k = rests_now (name_eq d c) d after quiet (λ e. let x : true ≡ false = heard e in absurd cc) k
+  holds_at d after (places.Asked number (Some quiet)) heard k = (k.0, rests_now (bytes_eq d c) d after quiet (λ e. let x : true ≡ false = heard e in absurd cc) k.1)
+  holds_at d after (places.Nothing quiet) heard k = rests_now (bytes_eq d c) d after quiet (λ e. let x : true ≡ false = heard e in absurd cc) k
   holds_at d after (places.Found q id owner g) heard k = k
 
 pub notice_knows : NoticeKnows
@@ -105,11 +106,11 @@ notice_knows workers me n c found g slot kind next h s tells is order whole fits
     news : News
     news = news_of found
 
-    late : (d : List ℕ) (after : Id) (quiet : Quiet) → name_eq d c ≡ false → RestsAt workers me d after (Nothing quiet.q quiet.floor) h → RestsAt workers me d after (Nothing quiet.q quiet.floor) (written me Answered next (notice_facts c found s) (Took me (owner_of workers c) n kind ∷ h))
+    late : (d : List ℕ) (after : Id) (quiet : Quiet) → bytes_eq d c ≡ false → RestsAt workers me d after (Nothing quiet.q quiet.floor) h → RestsAt workers me d after (Nothing quiet.q quiet.floor) (written me Answered next (notice_facts c found s) (Took me (owner_of workers c) n kind ∷ h))
     late d after quiet other k =
         place_written workers me d after (places.Nothing quiet) me Answered next (notice_facts c found s) (Took me (owner_of workers c) n kind ∷ h)
         (take_keeps workers me d after (Nothing quiet.q quiet.floor) (owner_of workers c) n kind (Notice c (news_of found).id g slot) h is
-        (λ _. unlike c d (λ e. let x : true ≡ false = sym (name_self c) ∙ ap (λ (m : List ℕ). name_eq m c) (sym e) ∙ other in absurd cc)) k)
+        (λ _. unlike c d (λ e. let x : true ≡ false = sym (name_self c) ∙ ap (λ (m : List ℕ). bytes_eq m c) (sym e) ∙ other in absurd cc)) k)
 
     found_late : (d : List ℕ) (after : Id) (q : ℕ) (id : Id) → RestsAt workers me d after (Finds q id) h → RestsAt workers me d after (Finds q id) (written me Answered next (notice_facts c found s) (Took me (owner_of workers c) n kind ∷ h))
     found_late d after q id k = place_written workers me d after (places.Found q id 0 0) me Answered next (notice_facts c found s) (Took me (owner_of workers c) n kind ∷ h) (found_stays workers me d after q id (Took me (owner_of workers c) n kind) h k)
@@ -118,7 +119,7 @@ notice_knows workers me n c found g slot kind next h s tells is order whole fits
     asked_late number d after k = (place_written workers me d after (places.Asked number None) me Answered next (notice_facts c found s) (Took me (owner_of workers c) n kind ∷ h) (ask_more me number d after (Took me (owner_of workers c) n kind) h k, tt)).0
 
     -- what rested on an answer of nothing is now what the notice brings
-    good : (after : Id) (quiet : Quiet) → RestedBy workers me c h (written me Answered next (notice_facts c found s) (Took me (owner_of workers c) n kind ∷ h)) (name_eq c c) c after quiet → is_past (news_of found).id after ≡ true
+    good : (after : Id) (quiet : Quiet) → RestedBy workers me c h (written me Answered next (notice_facts c found s) (Took me (owner_of workers c) n kind ∷ h)) (bytes_eq c c) c after quiet → is_past (news_of found).id after ≡ true
         → RestsAt workers me c after (Finds quiet.q (news_of found).id) (written me Answered next (notice_facts c found s) (Took me (owner_of workers c) n kind ∷ h))
     good after quiet rested past =
         place_written workers me c after (places.Found quiet.q (news_of found).id 0 0) me Answered next (notice_facts c found s) (Took me (owner_of workers c) n kind ∷ h)

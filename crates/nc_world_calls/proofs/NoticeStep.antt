@@ -50,7 +50,7 @@ use Rattle.nc_world_calls.specs.Noticing.{NoticeSendsWell}
 use Rattle.nc_world_told.proofs.Written.{written_is}
 use Rattle.nc_world_told.proofs.Sends.{IsOut, one_fact, out_unsent, unsent_good, decided_good}
 use Rattle.nc_world_calls.proofs.Answering.{owners_took, took_good, took_stands}
-use Rattle.nc_world_told.proofs.Staying.{Fits, outs_still, decided_fits, once_in, apart_from, all_both}
+use Rattle.nc_world_told.proofs.Staying.{StandsApart, outs_still, decided_fits, once_in, apart_from, all_both}
 use Rattle.nc_world_calls.proofs.Noticing.{notice_treats}
 
 module _ (workers me : ℕ) (c : List ℕ) (h : List Event) where
@@ -119,7 +119,7 @@ module _ (workers me : ℕ) (c : List ℕ) (h : List Event) where
           let fits = decided_fits me cause next (Took me (owner_of workers c) n kind ∷ h) (with_place j p s) b once stand
           (all_both (λ (y : SpoolAt). StandHere me y (written me cause next b.facts (Took me (owner_of workers c) n kind ∷ h))) (λ (y : SpoolAt). AllByRecursion (λ (r : Reader). IsNotIn r.k y) s.readers) b.shelf i.1 (apart_from s.readers b.shelf b.shelf few (λ x. omega arith))) in (
             decided_good workers me cause next (Took me (owner_of workers c) n kind ∷ h) (owners_took workers me (owner_of workers c) n kind h owners) (with_place j p s) b treated once stand i.0,
-            all-changed (Fits me cause next (Took me (owner_of workers c) n kind ∷ h) (decided (with_place j p s) b).facts []) (λ (x : SpoolAt). StandHere me x (written me cause next (decided (with_place j p s) b).facts (Took me (owner_of workers c) n kind ∷ h))) (decided (with_place j p s) b).shelf (λ x f. f.0) fits,
+            all-changed (StandsApart me cause next (Took me (owner_of workers c) n kind ∷ h) (decided (with_place j p s) b).facts []) (λ (x : SpoolAt). StandHere me x (written me cause next (decided (with_place j p s) b).facts (Took me (owner_of workers c) n kind ∷ h))) (decided (with_place j p s) b).shelf (λ x f. f.0) fits,
             decided_old (with_place j p s) b (heard_placed s j p k at none) i.2,
           )
 

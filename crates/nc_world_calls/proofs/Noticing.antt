@@ -1,11 +1,11 @@
 -- A spool that hears of a message.
 use Rattle.std.proofs.Common.{◌≡◌, ◌≢◌, ℕ, zero, suc, ◌<◌, Bool, true, false, cond, ltb, List, [], ◌∷◌, Some, None, refl, sym, ◌∙◌, subst, arith, length, set, get_or, length-set, slice_get}
-use Rattle.std.specs.Prelude.{◌==◌}
+use Rattle.std.specs.Prelude.{◌==◌, bytes_eq}
 use Rattle.std.specs.List.{position_or_len}
 use Rattle.std.proofs.lemmas.Bool.Decides.{nat_tests}
 use Rattle.std.proofs.lemmas.Grind.{get_or-set_at}
 use Rattle.std.proofs.lemmas.List.{get_or-set_other}
-use Rattle.nc_types.specs.Channel.{owner_of, name_eq}
+use Rattle.nc_types.specs.Channel.{owner_of}
 use Rattle.nc_journal.specs.declared.event.Event.{Event}
 use Rattle.nc_journal.specs.declared.event.Event.TheVariants.{Took}
 use Rattle.nc_journal.specs.declared.alert.AlertLine.TheVariants.{Notice}
@@ -29,12 +29,12 @@ some_place n m j true lt e = let same : n ≡ j = cc in grind arith
 some_place n m j false lt e = absurd cc
 
 place_within : (c : List ℕ) (list : List (List ℕ)) (j : ℕ) → place_of c list ≡ Some j → j < length list
-place_within c list j e = some_place (position_or_len (λ name. name_eq name c) list) (length list) j (ltb (position_or_len (λ name. name_eq name c) list) (length list)) refl e
+place_within c list j e = some_place (position_or_len (λ name. bytes_eq name c) list) (length list) j (ltb (position_or_len (λ name. bytes_eq name c) list) (length list)) refl e
 
-pub unlike : (a b : List ℕ) → (b ≡ a → ⊥) → name_eq a b ≡ false
-unlike a b differ = by (name_eq a b) refl
+pub unlike : (a b : List ℕ) → (b ≡ a → ⊥) → bytes_eq a b ≡ false
+unlike a b differ = by (bytes_eq a b) refl
   where
-    by : (t : Bool) → name_eq a b ≡ t → t ≡ false
+    by : (t : Bool) → bytes_eq a b ≡ t → t ≡ false
     by true e = absurd (differ (sym (same-name a b e)))
     by false e = refl
 

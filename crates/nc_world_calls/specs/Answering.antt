@@ -40,23 +40,28 @@ abbrev pub answer_of : ℕ → ℕ → ℕ → Option (Found Hold) → Option �
 answer_of number q floor found g slot = LookAnswer number q floor (option_map id_of (option_map news_of found)) g slot
 
 -- the history after the step, before the releases
-abbrev pub after_answer : (me from n : ℕ) → AlertKind → (ℕ → ℕ) → (number q floor : ℕ) → Option (Found Hold) → SpoolsAt Hold → List Event → List Event
+abbrev pub after_answer : (me from n : ℕ) → AlertKind → (ℕ → ℕ) → (number q floor : ℕ) → Option (Found Hold) → SpoolsAt Hold → List Event
+    → List Event
 after_answer me from n kind next number q floor found s h = onto (told me next (answers me number q floor found s).deeds) (Took me from n kind ∷ h)
 
 -- it writes only lawful sends
 abbrev pub AnswerSendsWell : Type 0
 AnswerSendsWell = (workers me from n number q floor : ℕ) (kind : AlertKind) (found : Option (Found Hold)) (g slot : Option ℕ) (next : ℕ → ℕ) (h : List Event) (s : SpoolsAt Hold)
     → Owners workers h → ((o : ℕ) → Along AnswersAt (own o h)) → AsksWell me h → IsNext from me (answer_of number q floor found g slot) h
-    → SpoolsKnow workers me h s.shelf → Along (IsGoodSend workers) h → Along (IsGoodSend workers) (after_answer me from n kind next number q floor found s h)
+    → SpoolsKnow workers me h s.shelf → Along (IsGoodSend workers) h
+    → Along (IsGoodSend workers) (after_answer me from n kind next number q floor found s h)
 
 -- it leaves each subscriber standing at the key of its spool
 abbrev pub AnswerStands : Type 0
-AnswerStands = (me from n number q floor : ℕ) (kind : AlertKind) (found : Option (Found Hold)) (next : ℕ → ℕ) (h : List Event) (s : SpoolsAt Hold) → StandOnce (board_of s)
-    → AllByRecursion (λ x. StandHere me x h) s.shelf → AllByRecursion (λ x. StandHere me x (after_answer me from n kind next number q floor found s h)) (answer_after number q floor found s).shelf
+AnswerStands = (me from n number q floor : ℕ) (kind : AlertKind) (found : Option (Found Hold)) (next : ℕ → ℕ) (h : List Event) (s : SpoolsAt Hold)
+    → StandOnce (board_of s)
+    → AllByRecursion (λ x. StandHere me x h) s.shelf
+    → AllByRecursion (λ x. StandHere me x (after_answer me from n kind next number q floor found s h)) (answer_after number q floor found s).shelf
 
 -- and each place of each spool holds, where no number is drawn twice, also in the step
 abbrev pub AnswerKnows : Type 0
 AnswerKnows = (workers me from n number q floor : ℕ) (kind : AlertKind) (found : Option (Found Hold)) (g slot : Option ℕ) (next : ℕ → ℕ) (h : List Event) (s : SpoolsAt Hold)
     → Owners workers h → ((o : ℕ) → Along AnswersAt (own o h)) → AsksWell me h → IsNext from me (answer_of number q floor found g slot) h
     → times number (ask_numbers (own me (after_answer me from n kind next number q floor found s h))) ≤ 1
-    → AllByRecursion (PlacesHold workers me h) s.shelf → AllByRecursion (PlacesHold workers me (after_answer me from n kind next number q floor found s h)) (answer_after number q floor found s).shelf
+    → AllByRecursion (PlacesHold workers me h) s.shelf
+    → AllByRecursion (PlacesHold workers me (after_answer me from n kind next number q floor found s h)) (answer_after number q floor found s).shelf

@@ -24,10 +24,13 @@ ArrivalSendsNothing = (workers me : ℕ) (next : ℕ → ℕ) (k : ℕ) (list : 
 
 -- where it stood nowhere, each subscriber of a spool stands then at its key: also the one that came, unless it begins behind the newest messages
 abbrev pub ArrivalStands : Type 0
-ArrivalStands = (me : ℕ) (next : ℕ → ℕ) (k : ℕ) (list : List (List ℕ)) (start : Start) (once : Bool) (s : SpoolsAt Hold) (h : List Event) → stands k (board_of s) ≡ 0 → stage_of k (own me h) ≡ Starting list once start
-    → AllByRecursion (λ x. StandHere me x h) s.shelf → AllByRecursion (λ x. StandHere me x (after_arrival me next k list start once s h)) (arrive_after k list start once s).shelf
+ArrivalStands = (me : ℕ) (next : ℕ → ℕ) (k : ℕ) (list : List (List ℕ)) (start : Start) (once : Bool) (s : SpoolsAt Hold) (h : List Event)
+    → stands k (board_of s) ≡ 0 → stage_of k (own me h) ≡ Starting list once start
+    → AllByRecursion (λ x. StandHere me x h) s.shelf
+    → AllByRecursion (λ x. StandHere me x (after_arrival me next k list start once s h)) (arrive_after k list start once s).shelf
 
 -- and each place of each spool holds
 abbrev pub ArrivalKnows : Type 0
 ArrivalKnows = (workers me : ℕ) (next : ℕ → ℕ) (k : ℕ) (list : List (List ℕ)) (start : Start) (once : Bool) (s : SpoolsAt Hold) (h : List Event)
-    → AllByRecursion (PlacesHold workers me h) s.shelf → AllByRecursion (PlacesHold workers me (after_arrival me next k list start once s h)) (arrive_after k list start once s).shelf
+    → AllByRecursion (PlacesHold workers me h) s.shelf
+    → AllByRecursion (PlacesHold workers me (after_arrival me next k list start once s h)) (arrive_after k list start once s).shelf

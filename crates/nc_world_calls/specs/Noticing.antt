@@ -18,7 +18,7 @@ use Rattle.nc_spool.specs.declared.spools.Found.{Found}
 use Rattle.nc_spool.specs.Calls.{SpoolsAt, board_of, news_of, notice_after}
 use Rattle.nc_spool_laws.specs.Keys.{SpoolFits}
 use Rattle.nc_spool_laws.specs.Order.{AreAscending}
-use Rattle.nc_spool_laws.specs.Standing.{IsWhole}
+use Rattle.nc_spool_laws.specs.Attended.{IsWhole}
 use Rattle.nc_spool_laws.specs.Tally.{StandOnce}
 use Rattle.nc_history.specs.Packets.{IsNext}
 use Rattle.nc_worker_state.specs.Deed.{told}
@@ -32,8 +32,10 @@ use Rattle.nc_world_told.specs.Known.{PlacesHold, SpoolKnows}
 -- a spool that holds before the step holds in it once its one place of the channel was treated and has found the message
 abbrev pub NoticeTreats : Type 0
 NoticeTreats = (workers me n : ℕ) (c : List ℕ) (news : News) (g slot : ℕ) (kind : AlertKind) (h : List Event) (s : SpoolAt) (j : ℕ) (p : Place)
-    → OwnerTells (owner_of workers c) (own (owner_of workers c) h) → IsNext (owner_of workers c) me (Notice c news.id g slot) h → SpoolKnows workers me s h
-    → place_of c s.key.list ≡ Some j → notice_says news (is_past news.id (id_at s.key j)) (place_at s j) ≡ Finds p → SpoolKnows workers me (with_place j p s) (Took me (owner_of workers c) n kind ∷ h)
+    → OwnerTells (owner_of workers c) (own (owner_of workers c) h) → IsNext (owner_of workers c) me (Notice c news.id g slot) h
+    → SpoolKnows workers me s h
+    → place_of c s.key.list ≡ Some j → notice_says news (is_past news.id (id_at s.key j)) (place_at s j) ≡ Finds p
+    → SpoolKnows workers me (with_place j p s) (Took me (owner_of workers c) n kind ∷ h)
 
 -- the history after the step, before the releases
 abbrev pub after_notice : (workers me n : ℕ) → AlertKind → (ℕ → ℕ) → List ℕ → Found Hold → SpoolsAt Hold → List Event → List Event
@@ -42,13 +44,16 @@ after_notice workers me n kind next c found s h = onto (told me next (notices me
 -- the step writes only lawful sends, and leaves each subscriber standing at the key of its spool
 abbrev pub NoticeSendsWell : Type 0
 NoticeSendsWell = (workers me n : ℕ) (c : List ℕ) (found : Found Hold) (g slot : ℕ) (kind : AlertKind) (next : ℕ → ℕ) (h : List Event) (s : SpoolsAt Hold)
-    → Owners workers h → OwnerTells (owner_of workers c) (own (owner_of workers c) h) → IsNext (owner_of workers c) me (Notice c (news_of found).id g slot) h → StandOnce (board_of s)
+    → Owners workers h → OwnerTells (owner_of workers c) (own (owner_of workers c) h)
+    → IsNext (owner_of workers c) me (Notice c (news_of found).id g slot) h → StandOnce (board_of s)
     → AllByRecursion (λ x. SpoolKnows workers me x h) s.shelf → AllByRecursion (λ x. StandHere me x h) s.shelf → Along (IsGoodSend workers) h
-    → Along (IsGoodSend workers) (after_notice workers me n kind next c found s h) × AllByRecursion (λ x. StandHere me x (after_notice workers me n kind next c found s h)) (notice_after c found s).shelf
+    → Along (IsGoodSend workers) (after_notice workers me n kind next c found s h)
+    × AllByRecursion (λ x. StandHere me x (after_notice workers me n kind next c found s h)) (notice_after c found s).shelf
 
 -- and each place of each spool holds
 abbrev pub NoticeKnows : Type 0
 NoticeKnows = (workers me n : ℕ) (c : List ℕ) (found : Found Hold) (g slot : ℕ) (kind : AlertKind) (next : ℕ → ℕ) (h : List Event) (s : SpoolsAt Hold)
     → OwnerTells (owner_of workers c) (own (owner_of workers c) h) → IsNext (owner_of workers c) me (Notice c (news_of found).id g slot) h
     → AreAscending s.shelf → AllByRecursion IsWhole s.shelf → AllByRecursion SpoolFits (notice_after c found s).shelf
-    → AllByRecursion (PlacesHold workers me h) s.shelf → AllByRecursion (PlacesHold workers me (after_notice workers me n kind next c found s h)) (notice_after c found s).shelf
+    → AllByRecursion (PlacesHold workers me h) s.shelf
+    → AllByRecursion (PlacesHold workers me (after_notice workers me n kind next c found s h)) (notice_after c found s).shelf

@@ -15,7 +15,7 @@ use Rattle.nc_spool_state.specs.Edge.{is_edge, is_any_awaited, is_any_behind, ed
 use Rattle.nc_spool_state.specs.Starting.{StartingAt, with_edge, start_awaits}
 use Rattle.nc_spool.specs.Board.{told}
 use Rattle.nc_spool.specs.Newest.{edges_behind, behind_edges, begun, parked, second_by, answered_all, went_on, edge_heard_at, edge_answered, edge_answered_by}
-use Rattle.nc_spool_laws.specs.Standing.{AnyLast, AnyKey, AnyNews, AnyAnswer, AnyFind}
+use Rattle.nc_spool_laws.specs.Attended.{AnyLast, AnyKey, AnyNews, AnyAnswer, AnyFind}
 use Rattle.nc_spool_laws.specs.Numbers.{one, total, edge_at, edges_of}
 use Rattle.nc_spool_laws.proofs.Totals.{total-without}
 use Rattle.nc_spool_laws.proofs.Lists.{none-without, found-passes}

@@ -14,8 +14,9 @@ use Rattle.nc_spool_state.specs.Starting.{StartingAt}
 use Rattle.nc_spool.specs.Board.{looked, asked_from}
 use Rattle.nc_spool.specs.Decide.{fence_look, fence_looks}
 use Rattle.nc_spool.specs.Newest.{fresh_edges, edges_from, asked_edge, edge_behind, edges_behind, behind_edges}
-use Rattle.nc_spool_laws.specs.Closed.{IsSending, IsClosed, IsKept}
-use Rattle.nc_spool_laws.specs.Standing.{AnyLast, AnyKey, AnyNews, AnyAnswer, AnyFind}
+use Rattle.nc_spool_laws.specs.Closed.{IsKept}
+use Rattle.nc_spool_laws.proofs.Closing.{IsSending, IsClosed}
+use Rattle.nc_spool_laws.specs.Attended.{AnyLast, AnyKey, AnyNews, AnyAnswer, AnyFind}
 use Rattle.nc_spool_laws.specs.Numbers.{one, total, edge_at, edges_of}
 use Rattle.nc_spool_laws.proofs.Totals.{total-push, total-without, total-set}
 use Rattle.nc_spool_laws.proofs.Same.{asked-starts, fences-starts, edges-starts, behinds-starts}

@@ -19,4 +19,5 @@ awaiting n starts = total (edges_of n) starts
 
 -- a worker took no answer to an edge that one of its starts awaits
 abbrev pub AwaitedEdgeIsUnanswered : Type 0
-AwaitedEdgeIsUnanswered = (setup : Setup) (h : List Event) (world : World) → IsSetup setup → Reached setup h world → (w v n : ℕ) → 1 ≤ awaiting n (starts_at world w) → is_edge_answered n (received v w h) ≡ false
+AwaitedEdgeIsUnanswered = (setup : Setup) (h : List Event) (world : World) → IsSetup setup → Reached setup h world → (w v n : ℕ)
+    → 1 ≤ awaiting n (starts_at world w) → is_edge_answered n (received v w h) ≡ false

@@ -30,7 +30,7 @@ use Rattle.nc_worker_state.specs.Incoming.{Incoming, TakesPacket}
 use Rattle.nc_worker_state.specs.Owned.{Holding, fenced, owned_by, order_of, member_of}
 use Rattle.nc_world_laws.proofs.Local.{all_append}
 use Rattle.nc_world_asks.proofs.Deleted.{delete_are}
-use Rattle.nc_world_edges.proofs.Standing.{IsUnanswering, IsEdgeless, AsksNoEdge}
+use Rattle.nc_world_edges.proofs.EdgesStand.{IsUnanswering, IsEdgeless, AsksNoEdge}
 
 abbrev AreEdgeless : List Event → Type 0
 AreEdgeless es = AllByRecursion IsEdgeless es

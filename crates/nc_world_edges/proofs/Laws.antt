@@ -26,7 +26,7 @@ use Rattle.nc_world_laws.proofs.Local.{eq_of, all_of}
 use Rattle.nc_world_asks.proofs.Reaching.{reached_asks}
 use Rattle.nc_world_places.proofs.Telling.{reached_owners_tell}
 use Rattle.nc_world_edges.specs.Edges.{HasEdgeAsk, answers_edge, is_edge_answered, IsToldFor, ReachedTellsEdges, NextEdgeAnswers, EdgesAreAnswered, EdgeAskedOnce, EdgeAskedBelow, UndrawnUnanswered, UndrawnUnreceived}
-use Rattle.nc_world_edges.proofs.Standing.{IsAskedBehind, IsAnsweredTo, IsOfEdge, AnswersEdge}
+use Rattle.nc_world_edges.proofs.EdgesStand.{IsAskedBehind, IsAnsweredTo, IsOfEdge, AnswersEdge}
 use Rattle.nc_world_edges.proofs.Reaching.{edges_stand}
 
 -- what is so of each edge is so of one that was told

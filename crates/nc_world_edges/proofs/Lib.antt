@@ -1,4 +1,4 @@
-pub mod Standing
+pub mod EdgesStand
 pub mod Edgeless
 pub mod Taking
 pub mod Reaching

@@ -18,8 +18,8 @@ use Rattle.nc_worker_state.specs.Worker.{holding}
 use Rattle.nc_world.specs.World.{World, seat, polls_of, handled_events}
 use Rattle.nc_world.specs.Reached.{IsSetup, IsInput, Reached}
 use Rattle.nc_world_laws.specs.Good.{Good}
-use Rattle.nc_world_laws.specs.Kinds.{IsOfWorker, AsksOwner}
-use Rattle.nc_world_laws.specs.WorldTheme.{IsWorldTheme}
+use Rattle.nc_world_laws.proofs.WorkerKinds.{IsOfWorker, AsksOwner}
+use Rattle.nc_world_laws.proofs.WorldTheme.{IsWorldTheme}
 use Rattle.nc_world_laws.proofs.Local.{eq_of}
 use Rattle.nc_world_laws.proofs.Frames.{own_handled, handled_onto, input_untaken}
 use Rattle.nc_world_laws.proofs.Moving.{taken_right}
@@ -27,7 +27,7 @@ use Rattle.nc_world_laws.proofs.Parts.{owns, serves, before, part, behind, rest,
 use Rattle.nc_world_laws.proofs.Telling.{woven_part, told_made, deeds_do, deeds_make}
 use Rattle.nc_world_laws.proofs.WorldThemes.{world_theme_holds}
 use Rattle.nc_world_asks.proofs.Reaching.{ring_next}
-use Rattle.nc_world_edges.proofs.Standing.{EdgesStand, IsUnanswering, IsEdgeless, edgeless_onto, asks_stand}
+use Rattle.nc_world_edges.proofs.EdgesStand.{EdgesStand, IsUnanswering, IsEdgeless, edgeless_onto, asks_stand}
 use Rattle.nc_world_edges.proofs.Edgeless.{ComesEdgeless, less_line, less_removed, unanswering_line}
 use Rattle.nc_world_edges.proofs.Taking.{ask_onto, received_onto, line_is, line_stands}
 

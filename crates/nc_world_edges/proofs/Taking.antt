@@ -26,11 +26,11 @@ use Rattle.nc_worker_state.specs.Worker.{woven}
 use Rattle.nc_rests.proofs.Answered.{all_if}
 use Rattle.nc_rests.proofs.Received.{received_same, of_next}
 use Rattle.nc_world_laws.specs.Good.{IsLineTo}
-use Rattle.nc_world_laws.specs.Kinds.{IsUntaken}
+use Rattle.nc_world_laws.proofs.WorkerKinds.{IsUntaken}
 use Rattle.nc_world_laws.proofs.Local.{eq_of, either, all_of}
 use Rattle.nc_world_laws.proofs.Telling.{woven_made}
 use Rattle.nc_world_edges.specs.Edges.{HasEdgeAsk}
-use Rattle.nc_world_edges.proofs.Standing.{EdgesStand, IsUnanswering, IsEdgeless, AsksNoEdge, edgeless_onto, got_stands, edge_stands, other_stands}
+use Rattle.nc_world_edges.proofs.EdgesStand.{EdgesStand, IsUnanswering, IsEdgeless, AsksNoEdge, edgeless_onto, got_stands, edge_stands, other_stands}
 use Rattle.nc_world_edges.proofs.Edgeless.{less_touch, less_raise, less_line, unanswering_line}
 
 -- ---- asks, as the history goes on

@@ -23,7 +23,7 @@ use Rattle.nc_world.specs.OwnersRule.{IsToldOwner, IsOwnersStep, IsNoOwners, Are
 use Rattle.nc_world.specs.Reached.{IsSetup, IsInput, IsMove, Reached, Moves}
 use Rattle.nc_world.specs.Laws.{CanMove}
 use Rattle.nc_world_laws.specs.Good.{Good}
-use Rattle.nc_world_laws.specs.Kinds.{IsOfWorker, AreDeeds}
+use Rattle.nc_world_laws.proofs.WorkerKinds.{IsOfWorker, AreDeeds}
 use Rattle.nc_world_laws.proofs.Telling.{told_all, deeds_do}
 use Rattle.nc_world_laws.proofs.Moving.{reached_is_good}
 use Rattle.nc_world_laws.proofs.Parts.{serves, part, rest, rest_all}

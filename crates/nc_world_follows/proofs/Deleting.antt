@@ -37,7 +37,7 @@ use Rattle.nc_spool.specs.Hear.{heeded, noticed, noticed_at, noticed_by, noticed
 use Rattle.nc_spool.specs.Depart.{other_names, names_with, left, left_by, member_gone, member_gone_by, gone}
 use Rattle.nc_spool.specs.Arrive.{oldest_cursor, joined, started_by, arrived}
 use Rattle.nc_spool.specs.Newest.{begun, parked, second_by, answered_all, went_on, edge_heard, edge_heard_at, edge_answered, edge_answered_by}
-use Rattle.nc_spool_laws.specs.Closed.{out, out_start}
+use Rattle.nc_spool_laws.proofs.Closing.{out, out_start}
 use Rattle.nc_spool_laws.specs.Numbers.{one, total}
 use Rattle.nc_spool_laws.specs.Tally.{reader_at, readers_of, start_at, stands, end_at, ends, StandOnce}
 use Rattle.nc_spool_laws.proofs.Totals.{total-push}

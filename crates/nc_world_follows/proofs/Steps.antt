@@ -6,7 +6,7 @@ use Rattle.nc_journal.specs.declared.event.Event.{Event}
 use Rattle.nc_journal.specs.declared.event.Event.TheVariants.{Clock, Opened, Got, Asked, Subscribed, Took, Pending, Quiet}
 use Rattle.nc_owner_laws.specs.Kinds.{IsOfOwner}
 use Rattle.nc_history.specs.Steps.{begins, step_front, AtEachStep}
-use Rattle.nc_world_laws.specs.Kinds.{IsOfWorker}
+use Rattle.nc_world_laws.proofs.WorkerKinds.{IsOfWorker}
 
 -- no step begins with it
 abbrev pub IsInner : Event → Type 0

@@ -13,7 +13,7 @@ use Rattle.nc_worker_state.specs.Worker.{WorkerAt, with_at, sent_to}
 use Rattle.nc_world.specs.World.{World}
 use Rattle.nc_world_holds.specs.Balance.{granted_to, released_by, carried_by, kept_by}
 use Rattle.nc_world_holds.proofs.Granting.{grants_to}
-use Rattle.nc_world_laws.specs.Kinds.{IsBy, IsUntaken}
+use Rattle.nc_world_laws.proofs.WorkerKinds.{IsBy, IsUntaken}
 use Rattle.nc_world_laws.proofs.Local.{eq_of}
 use Rattle.nc_world_laws.proofs.Queues.{pending_after}
 

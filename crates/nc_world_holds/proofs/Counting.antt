@@ -46,7 +46,7 @@ use Rattle.nc_world.specs.World.{World, seat, handled_events, handled, pending_i
 use Rattle.nc_world.specs.Moves.{Move, Handles, Carries, Takes, Counts, Rests, counted, rested, ring_size, carried_one, carried, with_ring, taken_events, taken, move_events, moved}
 use Rattle.nc_world.specs.Reached.{IsSetup, Reached, Begins, Moves}
 use Rattle.nc_world_laws.specs.Good.{Good}
-use Rattle.nc_world_laws.specs.Kinds.{AreDeeds}
+use Rattle.nc_world_laws.proofs.WorkerKinds.{AreDeeds}
 use Rattle.nc_world_laws.proofs.Local.{eq_of, either, all_of}
 use Rattle.nc_world_laws.proofs.Moving.{reached_is_good}
 use Rattle.nc_world_laws.proofs.Owning.{of_owned}

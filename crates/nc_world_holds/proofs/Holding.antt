@@ -25,7 +25,7 @@ use Rattle.nc_world.specs.World.{World, seat, handled_events, handled, pending_i
 use Rattle.nc_world.specs.Moves.{Move, Handles, Carries, Takes, Counts, Rests, counted, rested, ring_size, carried_one, carried, with_ring, taken_events, taken, move_events, moved}
 use Rattle.nc_world.specs.Reached.{IsSetup, IsInput, IsMove, Begins, Moves}
 use Rattle.nc_world_laws.specs.Good.{Good}
-use Rattle.nc_world_laws.specs.Kinds.{IsBy, IsUntaken, IsOfWorker, AsksOwner, AreDeeds}
+use Rattle.nc_world_laws.proofs.WorkerKinds.{IsBy, IsUntaken, IsOfWorker, AsksOwner, AreDeeds}
 use Rattle.nc_world_laws.proofs.Local.{eqb_self, eq_of, either, all_append, all_of}
 use Rattle.nc_world_laws.proofs.Taking.{first_pending}
 use Rattle.nc_world_laws.proofs.Parts.{owns, serves, before, part, part_made, part_alerts, behind, rest, rest_by, rest_untaken, step_by}

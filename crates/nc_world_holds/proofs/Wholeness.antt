@@ -24,7 +24,7 @@ use Rattle.nc_worker_state.specs.Incoming.{Incoming, TakesPacket, ClockReads, Re
 use Rattle.nc_worker_state.specs.Owned.{Holding, order_of, owned_by}
 use Rattle.nc_worker_state.specs.Desk.{Desk, opening}
 use Rattle.nc_worker_state.specs.Worker.{sent_to}
-use Rattle.nc_world_laws.specs.Kinds.{IsBy, IsUntaken, IsOfWorker, AsksOwner}
+use Rattle.nc_world_laws.proofs.WorkerKinds.{IsBy, IsUntaken, IsOfWorker, AsksOwner}
 use Rattle.nc_world_laws.proofs.Local.{all_append}
 use Rattle.nc_world_laws.proofs.Queues.{pending_after}
 use Rattle.nc_world_holds.specs.Balance.{IsWholeLine, AreWhole}

@@ -76,11 +76,13 @@ module _ (test : ℕ → ℕ → Bool) where
 
 -- whatever the test: what an owner granted to a worker was released, is on its way, or is kept by the worker's spools
 abbrev pub IsBalanced : List Event → World → Type 0
-IsBalanced h world = (test : ℕ → ℕ → Bool) (o w : ℕ) → granted_to test o w h ≡ released_by test o w h + carried_by test (lines_of (pending o w h)) + kept_by test o (world.workers w).desk.spools.kept
+IsBalanced h world = (test : ℕ → ℕ → Bool) (o w : ℕ)
+    → granted_to test o w h ≡ released_by test o w h + carried_by test (lines_of (pending o w h)) + kept_by test o (world.workers w).desk.spools.kept
 
 -- the part of a worker's step beside its owner: what came is released, or kept
 abbrev pub ServedBalances : Type 0
-ServedBalances = (test : ℕ → ℕ → Bool) (setup : Setup) (o me : ℕ) (incoming : Incoming) (next : ℕ → ℕ) (d : Desk) (h : List Event) → IsWholeIncoming incoming
+ServedBalances = (test : ℕ → ℕ → Bool) (setup : Setup) (o me : ℕ) (incoming : Incoming) (next : ℕ → ℕ) (d : Desk) (h : List Event)
+    → IsWholeIncoming incoming
     → released_by test o me (onto (told me next (served setup me incoming d).deeds) h) + kept_by test o (served setup me incoming d).after.spools.kept
     ≡ released_by test o me h + brought test o incoming + kept_by test o d.spools.kept
 

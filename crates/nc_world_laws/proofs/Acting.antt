@@ -19,7 +19,7 @@ use Rattle.nc_worker_state.specs.Owned.{OwnersPart}
 use Rattle.nc_worker_state.specs.Desk.{Served}
 use Rattle.nc_worker_state.specs.Worker.{WorkerAt, Seat, with_at, sent_to, given_back, dealt_worker, dealt_counts}
 use Rattle.nc_world.specs.World.{World, with_seat}
-use Rattle.nc_world_laws.specs.Kinds.{IsBy, IsUntaken}
+use Rattle.nc_world_laws.proofs.WorkerKinds.{IsBy, IsUntaken}
 use Rattle.nc_world_laws.specs.Good.{IsLineTo, AreLinesTo, NumbersFollow, Good}
 use Rattle.nc_world_laws.proofs.Local.{eq_of, all_append, own_onto, own_other}
 use Rattle.nc_world_laws.proofs.Queues.{pending_sent, pending_other}

@@ -22,12 +22,13 @@ use Rattle.nc_spool.specs.Board.{told as tells, looked, asked_from}
 use Rattle.nc_spool.specs.Decide.{fence_look, fence_looks}
 use Rattle.nc_spool.specs.Newest.{asked_edge, edges_from, edge_behind, edges_behind}
 use Rattle.nc_spool.specs.Calls.{SpoolsAt, board_of, arrive_board, answer_board, edge_board, notice_board, gone_board, news_of}
-use Rattle.nc_spool_laws.specs.Closed.{IsClosed, IsKept}
-use Rattle.nc_spool_laws.specs.Standing.{AnyNews, AnyAnswer, AnyLast, AnyKey, AnyFind}
+use Rattle.nc_spool_laws.specs.Closed.{IsKept}
+use Rattle.nc_spool_laws.proofs.Closing.{IsClosed}
+use Rattle.nc_spool_laws.specs.Attended.{AnyNews, AnyAnswer, AnyLast, AnyKey, AnyFind}
 use Rattle.nc_spool_laws.proofs.Lists.{all-append}
 use Rattle.nc_spool_laws.proofs.Walk.{all-kept}
 use Rattle.nc_worker_state.specs.Spooled.{Hold, Spooled, ask_line, fact_deed, facts_deeds, arrives, answers, edges, notices, loses, release}
-use Rattle.nc_world_laws.specs.Kinds.{AsksOwner, AreDeeds}
+use Rattle.nc_world_laws.proofs.WorkerKinds.{AsksOwner, AreDeeds}
 use Rattle.nc_world_laws.proofs.Telling.{deeds_append}
 use Rattle.std.specs.Prelude.{map}
 

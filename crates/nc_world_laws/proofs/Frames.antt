@@ -17,7 +17,7 @@ use Rattle.nc_worker_state.specs.Incoming.{Incoming, TakesPacket, ClockReads, Re
 use Rattle.nc_worker_state.specs.Worker.{sent_to}
 use Rattle.nc_world.specs.World.{World, handled_events}
 use Rattle.nc_world.specs.Reached.{IsSetup, IsInput}
-use Rattle.nc_world_laws.specs.Kinds.{IsBy, IsUntaken}
+use Rattle.nc_world_laws.proofs.WorkerKinds.{IsBy, IsUntaken}
 use Rattle.nc_world_laws.specs.Good.{Good}
 use Rattle.nc_world_laws.proofs.Local.{eq_of, own_onto, own_other}
 use Rattle.nc_world_laws.proofs.Queues.{pending_after}

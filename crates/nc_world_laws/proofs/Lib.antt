@@ -1,3 +1,6 @@
+pub mod WorkerKinds
+pub mod OwnerTheme
+pub mod WorldTheme
 pub mod Local
 pub mod Queues
 pub mod Telling

@@ -6,7 +6,7 @@ use Rattle.std.proofs.lemmas.Bool.Decides.{nat_tests}
 use Rattle.nc_journal.specs.History.{own, onto, is_by}
 use Rattle.nc_journal.specs.declared.event.Event.{Event}
 use Rattle.nc_journal.specs.declared.event.Event.TheVariants.{Clock, Opened, Got, Asked, Answered, Subscribed, Started, Joined, Parted, Raised, Stored, Left, Looked, Edged, Granted, Released, Freed, Removed, Sent, Ended, Replied, Wrote, Shut, Made, Took, Pending, Quiet}
-use Rattle.nc_world_laws.specs.Kinds.{IsBy}
+use Rattle.nc_world_laws.proofs.WorkerKinds.{IsBy}
 
 pub eqb_self : (n : ℕ) → (n == n) ≡ true
 eqb_self n = grind (arith, nat_tests)

@@ -15,9 +15,9 @@ use Rattle.nc_world.specs.World.{World, new_world, handled_events, handled, pend
 use Rattle.nc_world.specs.Moves.{Move, Handles, Carries, Takes, Counts, Rests, counted, rested, taken_events, taken, move_events, moved, with_ring}
 use Rattle.nc_world.specs.Reached.{IsSetup, IsInput, IsMove, Begins, Moves}
 use Rattle.nc_world_laws.specs.Good.{Good, IsLineTo, AreLinesTo}
-use Rattle.nc_world_laws.specs.Kinds.{IsUntaken}
+use Rattle.nc_world_laws.proofs.WorkerKinds.{IsUntaken}
 use Rattle.nc_world_laws.specs.Outside.{IsOutside}
-use Rattle.nc_world_laws.specs.OwnerTheme.{IsOwnerTheme}
+use Rattle.nc_world_laws.proofs.OwnerTheme.{IsOwnerTheme}
 use Rattle.nc_world_laws.specs.Laws.{ReachedIsGood}
 use Rattle.nc_world_laws.proofs.Local.{eqb_self, own_one}
 use Rattle.nc_world_laws.proofs.Numbers.{AreNumbered}

@@ -16,7 +16,7 @@ use Rattle.nc_history.specs.Packets.{Packet, packet, is_pair, pending, made_coun
 use Rattle.nc_worker_state.specs.Deed.{Deed, Does, Makes, told, next_after}
 use Rattle.nc_worker_state.specs.Owned.{OwnersPart}
 use Rattle.nc_worker_state.specs.Worker.{woven, part_woven}
-use Rattle.nc_world_laws.specs.Kinds.{IsBy, IsUntaken, IsUnmade}
+use Rattle.nc_world_laws.proofs.WorkerKinds.{IsBy, IsUntaken, IsUnmade}
 use Rattle.nc_world_laws.specs.Good.{NumbersFollow}
 use Rattle.nc_world_laws.proofs.Local.{eq_of, differs}
 use Rattle.nc_world_laws.proofs.Queues.{other_case}

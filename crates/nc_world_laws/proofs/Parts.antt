@@ -20,9 +20,9 @@ use Rattle.nc_worker_state.specs.Worker.{holding, part_woven}
 use Rattle.nc_owner_laws.proofs.Stamping.{onto_append}
 use Rattle.nc_world.specs.World.{World, seat, polls_of, handled_events}
 use Rattle.nc_world.specs.Reached.{IsSetup}
-use Rattle.nc_world_laws.specs.Kinds.{IsBy, IsUntaken, IsUnmade, IsOfWorker, AsksOwner, AreDeeds}
+use Rattle.nc_world_laws.proofs.WorkerKinds.{IsBy, IsUntaken, IsUnmade, IsOfWorker, AsksOwner, AreDeeds}
 use Rattle.nc_world_laws.specs.Good.{IsLineTo, Good}
-use Rattle.nc_world_laws.specs.OwnerTheme.{OwnerFact, IsOwnerTheme}
+use Rattle.nc_world_laws.proofs.OwnerTheme.{OwnerFact, IsOwnerTheme}
 use Rattle.nc_world_laws.proofs.Local.{eqb_self, all_append}
 use Rattle.nc_world_laws.proofs.Telling.{told_made, told_all, deeds_do, deeds_make, PartEvents, PartAlerts, all_events_of, woven_part, woven_part_all, by_owner, by_worker, unmade_owner, unmade_worker, untaken_owner, untaken_worker, line_asked}
 use Rattle.nc_world_laws.proofs.Numbers.{AreNumbered, numbered_append, part_numbered, told_numbered}

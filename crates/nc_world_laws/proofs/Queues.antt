@@ -8,7 +8,7 @@ use Rattle.nc_journal.specs.declared.event.Event.{Event}
 use Rattle.nc_journal.specs.declared.event.Event.TheVariants.{Made, Took}
 use Rattle.nc_history.specs.Packets.{Packet, packet, pending, took_count}
 use Rattle.nc_worker_state.specs.Worker.{sent_to}
-use Rattle.nc_world_laws.specs.Kinds.{IsBy, IsUntaken}
+use Rattle.nc_world_laws.proofs.WorkerKinds.{IsBy, IsUntaken}
 use Rattle.nc_world_laws.proofs.Local.{differs, eq_of}
 
 sent_case : (b1 b2 : Bool) (P S : List Packet) (p : Packet) → b1 ≡ true → cond (b1 && b2) (P ++ p ∷ []) P ++ S ≡ P ++ cond b2 (p ∷ S) S

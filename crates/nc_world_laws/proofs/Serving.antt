@@ -8,7 +8,7 @@ use Rattle.nc_worker_state.specs.Incoming.{Incoming, TakesPacket, ClockReads, Re
 use Rattle.nc_worker_state.specs.Spooled.{found_by, found_in}
 use Rattle.nc_worker_state.specs.Desk.{Desk, Served, replied, is_waiting, handled, settled, begun, served}
 use Rattle.nc_world.specs.Reached.{IsSetup}
-use Rattle.nc_world_laws.specs.Kinds.{AreDeeds}
+use Rattle.nc_world_laws.proofs.WorkerKinds.{AreDeeds}
 use Rattle.nc_world_laws.proofs.Local.{either}
 use Rattle.nc_world_laws.proofs.Telling.{deeds_append}
 use Rattle.nc_world_laws.proofs.Asking.{releases_of, arrives_well, answers_well, edges_well, notices_well, loses_well}

@@ -52,8 +52,8 @@ use Rattle.nc_worker_state.specs.Desk.{Desk, opening}
 use Rattle.nc_worker_state.specs.Worker.{woven, part_woven}
 use Rattle.nc_owner_laws.proofs.Stamping.{onto_append}
 use Rattle.nc_world_laws.specs.Good.{IsLineTo}
-use Rattle.nc_world_laws.specs.Kinds.{IsBy, AreDeeds}
-use Rattle.nc_world_laws.specs.OwnerTheme.{OwnerFact, MayGo, StepBase, StepsKeep, IsOwnerTheme}
+use Rattle.nc_world_laws.proofs.WorkerKinds.{IsBy, AreDeeds}
+use Rattle.nc_world_laws.proofs.OwnerTheme.{OwnerFact, MayGo, StepBase, StepsKeep, IsOwnerTheme}
 use Rattle.nc_world_laws.proofs.Local.{eqb_self, eqb_of}
 use Rattle.nc_world_laws.proofs.Telling.{weave_nothing, by_worker, aside_worker, plain_asked}
 use Rattle.nc_world_laws.proofs.Touching.{touched_once, reaped_memberless}

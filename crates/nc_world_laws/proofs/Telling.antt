@@ -16,7 +16,7 @@ use Rattle.nc_owner_laws.specs.Weave.{weave, makes, numbered, numbered_by}
 use Rattle.nc_worker_state.specs.Deed.{Deed, Does, Makes, told, next_after}
 use Rattle.nc_worker_state.specs.Owned.{OwnersPart}
 use Rattle.nc_worker_state.specs.Worker.{woven, part_woven}
-use Rattle.nc_world_laws.specs.Kinds.{IsBy, IsUntaken, IsUnmade, IsOfWorker, AsksOwner, AreDeeds}
+use Rattle.nc_world_laws.proofs.WorkerKinds.{IsBy, IsUntaken, IsUnmade, IsOfWorker, AsksOwner, AreDeeds}
 use Rattle.nc_world_laws.specs.Good.{IsLineTo}
 use Rattle.nc_world_laws.proofs.Local.{eqb_of, all_of, all_append}
 

@@ -11,7 +11,7 @@ use Rattle.nc_world.specs.World.{World, handled_events, handled, pending_in}
 use Rattle.nc_world.specs.Moves.{Move, Handles, Carries, Takes, Counts, Rests, counted, rested, taken_events, taken, carried, carried_one, ring_size, move_events, moved}
 use Rattle.nc_world.specs.Reached.{IsSetup, IsInput, IsMove, Reached, Begins, Moves}
 use Rattle.nc_world_laws.specs.Good.{Good}
-use Rattle.nc_world_laws.specs.OwnerTheme.{OwnerFact, IsOwnerTheme, OwnerThemeHolds}
+use Rattle.nc_world_laws.proofs.OwnerTheme.{OwnerFact, IsOwnerTheme, OwnerThemeHolds}
 use Rattle.nc_world_laws.proofs.Local.{eq_of, either, own_onto, own_other}
 use Rattle.nc_world_laws.proofs.Stepping.{IsRight}
 use Rattle.nc_world_laws.proofs.Parts.{owns, serves, step_by, step_themed}

@@ -9,7 +9,7 @@ use Rattle.nc_world.specs.World.{World, pending_in}
 use Rattle.nc_world.specs.Moves.{Move, Handles, Carries, Takes, Counts, Rests, counted, rested, taken_events, taken, carried, carried_one, ring_size, move_events, moved}
 use Rattle.nc_world.specs.Reached.{IsSetup, IsMove, Reached, Begins, Moves}
 use Rattle.nc_world_laws.specs.Good.{Good}
-use Rattle.nc_world_laws.specs.WorldTheme.{WorldFact, IsWorldTheme, WorldThemeHolds}
+use Rattle.nc_world_laws.proofs.WorldTheme.{WorldFact, IsWorldTheme, WorldThemeHolds}
 use Rattle.nc_world_laws.proofs.Local.{either}
 use Rattle.nc_world_laws.proofs.Moving.{reached_is_good}
 

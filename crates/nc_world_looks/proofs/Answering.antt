@@ -13,7 +13,7 @@ use Rattle.nc_world.specs.World.{World, handled_events}
 use Rattle.nc_world.specs.Moves.{with_ring}
 use Rattle.nc_world.specs.Reached.{IsSetup, IsInput}
 use Rattle.nc_world_laws.specs.Good.{Good}
-use Rattle.nc_world_laws.specs.WorldTheme.{IsWorldTheme}
+use Rattle.nc_world_laws.proofs.WorldTheme.{IsWorldTheme}
 use Rattle.nc_world_laws.proofs.Local.{eq_of}
 use Rattle.nc_world_laws.proofs.Parts.{step_by, rest, rest_by, rest_untaken}
 use Rattle.nc_world_laws.proofs.Queues.{pending_after}

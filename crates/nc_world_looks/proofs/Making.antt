@@ -19,7 +19,7 @@ use Rattle.nc_worker_state.specs.Owned.{Holding, line_polls, owned_by}
 use Rattle.nc_worker_state.specs.Worker.{sent_to, holding}
 use Rattle.nc_world.specs.World.{World, seat, handled_events}
 use Rattle.nc_world.specs.Reached.{IsSetup}
-use Rattle.nc_world_laws.specs.Kinds.{IsBy}
+use Rattle.nc_world_laws.proofs.WorkerKinds.{IsBy}
 use Rattle.nc_world_laws.specs.Good.{Good}
 use Rattle.nc_world_laws.proofs.Local.{eqb_self, eq_of, differs}
 use Rattle.nc_world_laws.proofs.Parts.{owns, before, part, behind, of}

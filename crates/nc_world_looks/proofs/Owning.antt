@@ -1,5 +1,5 @@
 -- A worker answers the look that it takes, and no other.
-use Rattle.std.proofs.Common.{◌≡◌, ℕ, ◌+◌, ◌≤◌, Bool, true, false, cond, List, [], ◌∷◌, ◌++◌, Option, Some, None, refl, sym, ap, ◌∙◌, subst, arith}
+use Rattle.std.proofs.Common.{◌≡◌, ℕ, ◌+◌, ◌≤◌, Bool, true, false, cond, List, [], ◌∷◌, ◌++◌, Option, Some, None, refl, arith}
 use Rattle.std.specs.Prelude.{◌==◌}
 use Rattle.std.specs.List.{AllByRecursion}
 use Rattle.nc_types.specs.Id.{Id}
@@ -26,7 +26,7 @@ use Rattle.nc_worker_state.specs.Owned.{Holding, order_of, line_polls, owned_by}
 use Rattle.nc_worker_state.specs.Worker.{holding}
 use Rattle.nc_world.specs.World.{World, seat, handled_events}
 use Rattle.nc_world.specs.Reached.{IsSetup}
-use Rattle.nc_world_laws.specs.Kinds.{AsksOwner, AreDeeds}
+use Rattle.nc_world_laws.proofs.WorkerKinds.{AsksOwner, AreDeeds}
 use Rattle.nc_world_laws.specs.Good.{Good}
 use Rattle.nc_world_laws.proofs.Parts.{owns, serves, before, part, behind, of, part_alerts, well}
 use Rattle.nc_world_holds.specs.Balance.{one_if}

@@ -30,7 +30,8 @@ LooksAreAnswered = (setup : Setup) (h : List Event) (world : World) → IsSetup 
 
 -- so where nothing is pending between the two, the worker took as many answers at least
 abbrev pub RestedLooks : Type 0
-RestedLooks = (setup : Setup) (h : List Event) (world : World) → IsSetup setup → Reached setup h world → (w o n : ℕ) → pending w o h ≡ [] → pending o w h ≡ []
+RestedLooks = (setup : Setup) (h : List Event) (world : World) → IsSetup setup → Reached setup h world → (w o n : ℕ) → pending w o h ≡ []
+    → pending o w h ≡ []
     → weigh (looking n) (sent_lines w o h) ≤ weigh (looked n) (received o w h)
 
 -- and an owner answers no look that wasn't asked for: the answers that it made for a worker, and what is pending from there, are at most what the worker asked

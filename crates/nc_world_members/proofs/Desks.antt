@@ -1,10 +1,10 @@
 -- What a worker's part of a step tells of members: those who stand with a channel.
 use Rattle.std.proofs.Common.{◌≡◌, ℕ, ◌+◌, ◌≤◌, Bool, true, false, cond, not, List, [], Option, refl, sym, ap, ◌∙◌, subst, arith}
-use Rattle.std.specs.Prelude.{◌==◌, ◌&&◌, ◌||◌, filter}
+use Rattle.std.specs.Prelude.{◌==◌, ◌&&◌, ◌||◌, filter, bytes_eq}
 use Rattle.std.proofs.lemmas.Bool.{true≢false}
 use Rattle.std.specs.Option.{option_map}
 use Rattle.std.specs.Cmp.Lexicographic.{same_text}
-use Rattle.nc_types.specs.Channel.{AreDistinct, name_eq, owner_of}
+use Rattle.nc_types.specs.Channel.{AreDistinct, owner_of}
 use Rattle.nc_types.specs.declared.info.Info.{Info}
 use Rattle.nc_types.specs.declared.start.Start.{Start}
 use Rattle.nc_types.specs.declared.start.Start.TheVariants.{Oldest, Newest, Given}
@@ -32,7 +32,7 @@ use Rattle.nc_spool_state.specs.Kept.{is_idle}
 use Rattle.nc_worker_state.specs.Deed.{Deed}
 use Rattle.nc_worker_state.specs.Spooled.{Hold, facts_deeds, releases, found_by, found_in}
 use Rattle.nc_worker_state.specs.Desk.{Desk, Served, is_waiting, replied, handled, settled, begun, served}
-use Rattle.nc_world_laws.specs.Kinds.{AreDeeds}
+use Rattle.nc_world_laws.proofs.WorkerKinds.{AreDeeds}
 use Rattle.nc_world_laws.proofs.Local.{either}
 use Rattle.nc_world_laws.proofs.Asking.{arrives_well, answers_well, edges_well, notices_well, loses_well}
 use Rattle.nc_world_members.specs.Members.{one_if, loses}
@@ -82,14 +82,14 @@ none_of false = refl
 module _ (setup : Setup) (me : ℕ) where
   -- the owners hear of the members, where some of those that stand lost the channel, and others are about to hear that they did; nobody joins but who comes,
   -- nobody stands twice, and nobody stands who didn't come
-  pub record Tells (new : ℕ → Bool) (loss : List ℕ → ℕ → Bool) (d : Desk) (r : Served) : Type 0 where
+  pub record OwnersHear (new : ℕ → Bool) (loss : List ℕ → ℕ → Bool) (d : Desk) (r : Served) : Type 0 where
     pub told : (c : List ℕ) (k : ℕ) (lost : Bool) → (new k ≡ true → lost ≡ false)
         → hears c k (owner_of setup.workers c) (stands_with c k (board_of d.spools) && not (loss c k || lost)) r.deeds ≡ stands_with c k (board_of r.after.spools) && not lost
     pub joined : (c : List ℕ) (k : ℕ) → joins_done c k (owner_of setup.workers c) r.deeds ≤ one_if (new k)
     pub singly : StandSingly r.after.spools
     pub fewer : (k : ℕ) → new k ≡ false → stands k (board_of d.spools) ≡ 0 → stands k (board_of r.after.spools) ≡ 0
 
-  settled_tells : (new : ℕ → Bool) (loss : List ℕ → ℕ → Bool) (d : Desk) (r : Served) → Tells new loss d r → Tells new loss d (settled me r)
+  settled_tells : (new : ℕ → Bool) (loss : List ℕ → ℕ → Bool) (d : Desk) (r : Served) → OwnersHear new loss d r → OwnersHear new loss d (settled me r)
   settled_tells new loss d r t = record {
     told = λ c k lost apart. more_deeds c k (owner_of setup.workers c) _ r.deeds (releases me r.after.spools) ∙ releases_heard c k (owner_of setup.workers c) _ me (filter (is_idle r.after.spools.shelf) r.after.spools.kept) ∙ t.told c k lost apart;
     joined = λ c k. joined c k;
@@ -127,16 +127,16 @@ module _ (setup : Setup) (me : ℕ) where
     none_joins true = omega arith
     none_joins false = omega arith
 
-    nothing_tells : Tells (λ k. false) (λ c k. false) d (record { deeds = []; after = d })
+    nothing_tells : OwnersHear (λ k. false) (λ c k. false) d (record { deeds = []; after = d })
     nothing_tells = record { told = λ c k lost apart. refl; joined = λ c k. omega arith; singly = single; fewer = λ k e none. none }
 
-    replied_tells : (r status : ℕ) (info : Option Info) → Tells (λ k. false) (λ c k. false) d (replied me r status info d)
-    replied_tells r status info = either (Tells (λ k. false) (λ c k. false) d) (is_waiting r d.waiting) _ _ (record { told = λ c k lost apart. refl; joined = λ c k. omega arith; singly = single; fewer = λ k e none. none }) nothing_tells
+    replied_tells : (r status : ℕ) (info : Option Info) → OwnersHear (λ k. false) (λ c k. false) d (replied me r status info d)
+    replied_tells r status info = either (OwnersHear (λ k. false) (λ c k. false) d) (is_waiting r d.waiting) _ _ (record { told = λ c k lost apart. refl; joined = λ c k. omega arith; singly = single; fewer = λ k e none. none }) nothing_tells
 
     -- a channel is gone: who lost it is heard of no more, and of another channel it is heard as they stand
     gone_told : (c : List ℕ) (k : ℕ) (lost : Bool) (e : List ℕ) (subs : List ℕ)
         → hears c k (owner_of setup.workers c) (stands_with c k (board_of d.spools) && not (loses c k (lines.Gone e subs) || lost)) (facts_deeds me Deleted (gone_facts e subs d.spools)) ≡ stands_with c k (board_of (gone_after e subs d.spools)) && not lost
-    gone_told c k lost e subs = by (name_eq e c) refl
+    gone_told c k lost e subs = by (bytes_eq e c) refl
       where
         own_told : (is : Bool) → hears c k (owner_of setup.workers c) is (facts_deeds me Deleted (gone_facts c subs d.spools)) ≡ is
         own_told is = facts_heard c k setup.workers is me Deleted (gone_facts c subs d.spools) (loses_well setup.workers me d.spools knows c subs).0 ∙ (tell-members Hold c k d.spools single).own_removal subs is
@@ -147,14 +147,14 @@ module _ (setup : Setup) (me : ℕ) where
         parts false true l = refl
         parts false false l = refl
 
-        by : (t : Bool) → name_eq e c ≡ t
+        by : (t : Bool) → bytes_eq e c ≡ t
             → hears c k (owner_of setup.workers c) (stands_with c k (board_of d.spools) && not ((t && is_named k subs) || lost)) (facts_deeds me Deleted (gone_facts e subs d.spools)) ≡ stands_with c k (board_of (gone_after e subs d.spools)) && not lost
         by true same = subst (λ (x : List ℕ). hears c k (owner_of setup.workers c) (stands_with c k (board_of d.spools) && not ((true && is_named k subs) || lost)) (facts_deeds me Deleted (gone_facts x subs d.spools)) ≡ stands_with c k (board_of (gone_after x subs d.spools)) && not lost)
             (sym (same_text e c (sym same)))
             (own_told _ ∙ parts (stands_with c k (board_of d.spools)) (is_named k subs) lost ∙ ap (λ b. b && not lost) (sym ((tell-members Hold c k d.spools single).removed subs)))
         by false other = call_told c k lost Deleted (gone_facts e subs d.spools) _ (loses_well setup.workers me d.spools knows e subs).0 ((tell-members Hold c k d.spools single).removal e subs other) (λ l. (comers-join Hold c k d.spools).removal e subs)
 
-    handled_tells : (from : ℕ) (line : AlertLine) → Tells (λ k. false) (λ c k. loses c k line) d (handled me from line d)
+    handled_tells : (from : ℕ) (line : AlertLine) → OwnersHear (λ k. false) (λ c k. loses c k line) d (handled me from line d)
     handled_tells from (lines.PubAnswer r status info full) = replied_tells r status info
     handled_tells from (lines.InfoAnswer r status info) = replied_tells r status info
     handled_tells from (lines.DelAnswer r status info) = replied_tells r status info
@@ -199,7 +199,7 @@ module _ (setup : Setup) (me : ℕ) where
     handled_tells from (lines.Info r c) = nothing_tells
 
     -- a subscriber comes
-    came_tells : (n : ℕ) (list : List (List ℕ)) (start : Start) → Suits (Subscribes n list start) d → Tells (λ k. n == k) (λ c k. false) d (begun setup me (Subscribes n list start) d)
+    came_tells : (n : ℕ) (list : List (List ℕ)) (start : Start) → Suits (Subscribes n list start) d → OwnersHear (λ k. n == k) (λ c k. false) d (begun setup me (Subscribes n list start) d)
     came_tells n list start suits = record {
       told = λ c k lost apart. call_told c k lost Answered (arrive_facts n list start true d.spools) _ well ((tell-members Hold c k d.spools single).arrive n list start true) (λ l. unjoined c k lost apart l);
       joined = λ c k. call_joined c k (one_if (n == k)) Answered (arrive_facts n list start true d.spools) well (few c k);
@@ -221,7 +221,7 @@ module _ (setup : Setup) (me : ℕ) where
             by true never more = absurd (true≢false (sym is ∙ never refl))
             by false never more = omega (arith, more)
 
-    begun_tells : (incoming : Incoming) → Suits incoming d → Tells (comes incoming) (λ c k. loses_in c k incoming) d (begun setup me incoming d)
+    begun_tells : (incoming : Incoming) → Suits incoming d → OwnersHear (comes incoming) (λ c k. loses_in c k incoming) d (begun setup me incoming d)
     begun_tells (TakesPacket from p) suits = handled_tells from p.line
     begun_tells (ClockReads t) suits = nothing_tells
     begun_tells Reaps suits = nothing_tells
@@ -230,5 +230,5 @@ module _ (setup : Setup) (me : ℕ) where
     begun_tells (Informs c) suits = record { told = λ e k lost apart. cond_same e k (owner_of setup.workers e == owner_of setup.workers c) _; joined = λ e k. none_joins (owner_of setup.workers e == owner_of setup.workers c); singly = single; fewer = λ k e none. none }
     begun_tells (Subscribes n list start) suits = came_tells n list start suits
 
-    pub served_tells : (incoming : Incoming) → Suits incoming d → Tells (comes incoming) (λ c k. loses_in c k incoming) d (served setup me incoming d)
+    pub served_tells : (incoming : Incoming) → Suits incoming d → OwnersHear (comes incoming) (λ c k. loses_in c k incoming) d (served setup me incoming d)
     served_tells incoming suits = settled_tells (comes incoming) (λ c k. loses_in c k incoming) d (begun setup me incoming d) (begun_tells incoming suits)

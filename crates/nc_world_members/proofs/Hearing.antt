@@ -1,10 +1,10 @@
 -- What some events and deeds of a worker tell the owner of a channel of a member, how often they let it join, and whether they tell it that the channel is gone.
 use Rattle.std.proofs.Common.{◌≡◌, ℕ, zero, suc, ◌+◌, ◌≤◌, Bool, true, false, cond, List, [], ◌∷◌, ◌++◌, refl, sym, ap, ◌∙◌, map, arith}
-use Rattle.std.specs.Prelude.{◌==◌, ◌&&◌, ◌||◌}
+use Rattle.std.specs.Prelude.{◌==◌, ◌&&◌, ◌||◌, bytes_eq}
 use Rattle.std.specs.List.{AllByRecursion}
 use Rattle.std.proofs.lemmas.Bool.{true≢false}
 use Rattle.std.specs.Cmp.Lexicographic.{same_text}
-use Rattle.nc_types.specs.Channel.{name_eq, owner_of}
+use Rattle.nc_types.specs.Channel.{owner_of}
 use Rattle.nc_journal.specs.declared.event.Event.{Event}
 use Rattle.nc_journal.specs.declared.event.Event.TheVariants.{Made}
 use Rattle.nc_journal.specs.declared.word.EndedCause.{EndedCause}
@@ -21,7 +21,7 @@ use Rattle.nc_history.specs.Packets.{Packet, packet, lines_of}
 use Rattle.nc_worker_state.specs.Deed.{Deed, Does, Makes, told}
 use Rattle.nc_worker_state.specs.Spooled.{Hold, ask_line, facts_deeds, release}
 use Rattle.nc_worker_state.specs.Worker.{sent_to}
-use Rattle.nc_world_laws.specs.Kinds.{IsUnmade, AsksOwner, AreDeeds}
+use Rattle.nc_world_laws.proofs.WorkerKinds.{IsUnmade, AsksOwner, AreDeeds}
 use Rattle.nc_world_laws.proofs.Local.{eqb_self}
 use Rattle.nc_world_laws.proofs.Telling.{AllDo}
 use Rattle.nc_world_members.specs.Members.{becomes, membership, one_if, joining, joins, loses, is_lost}
@@ -109,12 +109,12 @@ module _ (c : List ℕ) (k : ℕ) where
 
   -- an alert that lets nobody join makes nobody a member
   pub unjoined : (a : AlertLine) → joining c k a ≡ 0 → becomes c k false a ≡ false
-  unjoined (lines.Join d n) none = by (name_eq d c && (n == k)) none
+  unjoined (lines.Join d n) none = by (bytes_eq d c && (n == k)) none
     where
       by : (t : Bool) → one_if t ≡ 0 → cond t true false ≡ false
       by true none = absurd (omega (arith, none))
       by false none = refl
-  unjoined (lines.Part d n) none = cond_same (name_eq d c && (n == k)) false
+  unjoined (lines.Part d n) none = cond_same (bytes_eq d c && (n == k)) false
   unjoined a none = refl
 
   -- who is no member before them and isn't let join is none behind them
@@ -239,19 +239,19 @@ module _ (c : List ℕ) (k : ℕ) where
 
   module _ (workers : ℕ) where
     -- what is asked of another owner is asked of another channel
-    owner_case : (d : List ℕ) (to : ℕ) (t : Bool) (now is : Bool) → name_eq d c ≡ t → owner_of workers d ≡ to → cond (owner_of workers c == to) (cond (t && now) true is) is ≡ cond (t && now) true is
+    owner_case : (d : List ℕ) (to : ℕ) (t : Bool) (now is : Bool) → bytes_eq d c ≡ t → owner_of workers d ≡ to → cond (owner_of workers c == to) (cond (t && now) true is) is ≡ cond (t && now) true is
     owner_case d to true now is e owns = ap (λ b. cond b (cond now true is) is) (ap (λ (x : List ℕ). owner_of workers x == to) (sym (same_text d c (sym e))) ∙ ap (λ x. x == to) owns ∙ eqb_self to)
     owner_case d to false now is e owns = cond_same (owner_of workers c == to) is
 
-    owner_part : (d : List ℕ) (to : ℕ) (t : Bool) (now is : Bool) → name_eq d c ≡ t → owner_of workers d ≡ to → cond (owner_of workers c == to) (cond (t && now) false is) is ≡ cond (t && now) false is
+    owner_part : (d : List ℕ) (to : ℕ) (t : Bool) (now is : Bool) → bytes_eq d c ≡ t → owner_of workers d ≡ to → cond (owner_of workers c == to) (cond (t && now) false is) is ≡ cond (t && now) false is
     owner_part d to true now is e owns = ap (λ b. cond b (cond now false is) is) (ap (λ (x : List ℕ). owner_of workers x == to) (sym (same_text d c (sym e))) ∙ ap (λ x. x == to) owns ∙ eqb_self to)
     owner_part d to false now is e owns = cond_same (owner_of workers c == to) is
 
     ask_heard : (to : ℕ) (ask : Ask) (is : Bool) → AsksOwner workers to (ask_line ask) → cond (owner_of workers c == to) (becomes c k is (ask_line ask)) is ≡ member_after c k is ask
     ask_heard to (asks.Look number d after fence) is owns = cond_same (owner_of workers c == to) is
     ask_heard to (asks.Edge number n d fence) is owns = cond_same (owner_of workers c == to) is
-    ask_heard to (asks.Join d n) is owns = owner_case d to (name_eq d c) (n == k) is refl owns
-    ask_heard to (asks.Part d n) is owns = owner_part d to (name_eq d c) (n == k) is refl owns
+    ask_heard to (asks.Join d n) is owns = owner_case d to (bytes_eq d c) (n == k) is refl owns
+    ask_heard to (asks.Part d n) is owns = owner_part d to (bytes_eq d c) (n == k) is refl owns
 
     pub facts_heard : (is : Bool) (me : ℕ) (cause : EndedCause) (fs : List Fact) → AreDeeds workers me (facts_deeds me cause fs) → hears (owner_of workers c) is (facts_deeds me cause fs) ≡ member_told c k is fs
     facts_heard is me cause [] p = refl
@@ -268,9 +268,9 @@ module _ (c : List ℕ) (k : ℕ) where
     ask_join to (asks.Look number d after fence) owns = none (owner_of workers c == to)
     ask_join to (asks.Edge number n d fence) owns = none (owner_of workers c == to)
     ask_join to (asks.Part d n) owns = none (owner_of workers c == to)
-    ask_join to (asks.Join d n) owns = by (name_eq d c) (n == k) refl
+    ask_join to (asks.Join d n) owns = by (bytes_eq d c) (n == k) refl
       where
-        by : (t now : Bool) → name_eq d c ≡ t → cond (owner_of workers c == to) (one_if (t && now)) 0 ≡ cond (t && now) 1 0
+        by : (t now : Bool) → bytes_eq d c ≡ t → cond (owner_of workers c == to) (one_if (t && now)) 0 ≡ cond (t && now) 1 0
         by true now e = ap (λ b. cond b (one_if now) 0) (ap (λ (x : List ℕ). owner_of workers x == to) (sym (same_text d c (sym e))) ∙ ap (λ x. x == to) owns ∙ eqb_self to)
         by false now e = none (owner_of workers c == to)
 

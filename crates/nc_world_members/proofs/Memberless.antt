@@ -1,9 +1,8 @@
 -- What an owner's step makes of the members of a channel.
 use Rattle.std.proofs.Common.{◌≡◌, ℕ, ◌+◌, Bool, true, false, cond, not, List, [], ◌∷◌, ◌++◌, Option, Some, None, refl, ◌∙◌, map}
-use Rattle.std.specs.Prelude.{◌&&◌, ◌||◌}
+use Rattle.std.specs.Prelude.{◌&&◌, ◌||◌, bytes_eq}
 use Rattle.std.specs.List.{AllByRecursion}
 use Rattle.nc_types.specs.Id.{Id}
-use Rattle.nc_types.specs.Channel.{name_eq}
 use Rattle.nc_types.specs.declared.info.Info.{Info}
 use Rattle.nc_journal.specs.History.{onto}
 use Rattle.nc_journal.specs.declared.event.Event.{Event}
@@ -107,9 +106,9 @@ less_behind fence s es k = all_append IsMemberless (raise_events fence s.owner) 
 -- ---- what an owner's step makes of a member
 
 abbrev pub member_by : List ℕ → Member → ℕ → AlertLine → Bool → Bool
-member_by c m from (lines.Join d n) is = (name_eq d c && is_same m from n) || is
-member_by c m from (lines.Part d n) is = not (name_eq d c && is_same m from n) && is
-member_by c m from (lines.Delete r d) is = not (name_eq d c) && is
+member_by c m from (lines.Join d n) is = (bytes_eq d c && is_same m from n) || is
+member_by c m from (lines.Part d n) is = not (bytes_eq d c && is_same m from n) && is
+member_by c m from (lines.Delete r d) is = not (bytes_eq d c) && is
 member_by c m from line is = is
 
 abbrev pub member_in : List ℕ → Member → Incoming → Bool → Bool
@@ -118,7 +117,7 @@ member_in c m incoming is = is
 
 -- whether the step tells a member that the channel is gone
 abbrev pub lost_by : List ℕ → AlertLine → Bool → Bool
-lost_by c (lines.Delete r d) is = name_eq d c && is
+lost_by c (lines.Delete r d) is = bytes_eq d c && is
 lost_by c line is = false
 
 abbrev pub lost_in : List ℕ → Incoming → Bool → Bool

@@ -2,9 +2,9 @@
 use Rattle.std.proofs.Common.{◌≡◌, ℕ, zero, suc, ◌+◌, ◌≤◌, Bool, true, false, cond, not, List, [], ◌∷◌, ◌++◌, refl, sym, ap, ◌∙◌, subst, arith, drop, length, replicate}
 use Rattle.std.proofs.lemmas.Bool.{true≢false}
 use Rattle.std.proofs.lemmas.Bool.Decides.{nat_tests}
-use Rattle.std.specs.Prelude.{◌==◌, ◌&&◌, ◌||◌, negsuc}
+use Rattle.std.specs.Prelude.{◌==◌, ◌&&◌, ◌||◌, negsuc, bytes_eq}
 use Rattle.std.specs.Cmp.Lexicographic.{same_text}
-use Rattle.nc_types.specs.Channel.{name_eq, owner_of}
+use Rattle.nc_types.specs.Channel.{owner_of}
 use Rattle.nc_types.specs.declared.start.Start.TheVariants.{Oldest, Newest, Given}
 use Rattle.nc_journal.specs.History.{own, onto}
 use Rattle.nc_journal.specs.Standing.{is_subscribed}
@@ -27,7 +27,7 @@ use Rattle.nc_world.specs.World.{World, handled_events, handled}
 use Rattle.nc_world.specs.Moves.{carried_one, with_ring}
 use Rattle.nc_world.specs.Reached.{IsSetup, IsInput}
 use Rattle.nc_world_laws.specs.Good.{IsLineTo, AreLinesTo, Good}
-use Rattle.nc_world_laws.specs.WorldTheme.{IsWorldTheme}
+use Rattle.nc_world_laws.proofs.WorldTheme.{IsWorldTheme}
 use Rattle.nc_world_laws.proofs.Local.{eqb_self, eq_of, eqb_of}
 use Rattle.nc_world_laws.proofs.Acting.{with_all}
 use Rattle.nc_world_laws.proofs.Taking.{first_pending, took_good}
@@ -38,7 +38,7 @@ use Rattle.nc_world_members.specs.Members.{becomes, membership, one_if, joining,
 use Rattle.nc_world_members.specs.Laws.{ReachedHasMembers, StandsOneWay, MembersStand}
 use Rattle.nc_world_members.proofs.Memberless.{member_by, member_in, lost_by, lost_in}
 use Rattle.nc_world_members.proofs.Hearing.{more_packets, joins_more_packets, membership_unjoined, membership_counted, lost_more_packets}
-use Rattle.nc_world_members.proofs.Desks.{comes, loses_in, Tells, Suits, served_tells}
+use Rattle.nc_world_members.proofs.Desks.{comes, loses_in, OwnersHear, Suits, served_tells}
 use Rattle.nc_world_members.proofs.Stepping.{events, step_heard, step_joins, step_lost, step_member, subscribed_here, unsubscribed_here, unsubscribed_there}
 
 -- ---- truths as numbers
@@ -100,7 +100,7 @@ nobody_told c (TakesPacket from p) = by p.line
     none false = refl
 
     by : (line : AlertLine) → lost_by c line false ≡ false
-    by (lines.Delete r d) = none (name_eq d c)
+    by (lines.Delete r d) = none (bytes_eq d c)
     by line = refl
 nobody_told c incoming = refl
 
@@ -119,7 +119,7 @@ module _ (setup : Setup) (is : IsSetup setup) (x : ℕ) (incoming : Incoming) (h
   abbrev new : WorkerAt
   new = dealt_worker es (owns x incoming world) (serves setup x incoming world) (world.workers x)
 
-  tells : Tells setup x (comes incoming) (λ c k. loses_in c k incoming) (world.workers x).desk (serves setup x incoming world)
+  tells : OwnersHear setup x (comes incoming) (λ c k. loses_in c k incoming) (world.workers x).desk (serves setup x incoming world)
   tells = served_tells setup x (world.workers x).desk (g.knows x) (has.singly x) incoming suits
 
   -- who is about to hear that a channel is gone was so before, or is told in the step
@@ -320,7 +320,7 @@ turned a b = grind (arith, nat_tests)
 
 -- what its owner makes of it is what is heard of its sender's subscribers
 join_here : (c : List ℕ) (w k v : ℕ) (d : List ℕ) (n : ℕ) (was : Bool) → (w == v) ≡ true → member_by c (member_of w k) v (lines.Join d n) was ≡ becomes c k was (lines.Join d n)
-join_here c w k v d n was e = by (name_eq d c) (w == v) (k == n) (n == k) was e (turned k n)
+join_here c w k v d n was e = by (bytes_eq d c) (w == v) (k == n) (n == k) was e (turned k n)
   where
     by : (a b i j was : Bool) → b ≡ true → i ≡ j → ((a && (b && i)) || was) ≡ cond (a && j) true was
     by true true true true was e f = refl
@@ -331,7 +331,7 @@ join_here c w k v d n was e = by (name_eq d c) (w == v) (k == n) (n == k) was e 
     by false b i j was e f = refl
 
 part_here : (c : List ℕ) (w k v : ℕ) (d : List ℕ) (n : ℕ) (was : Bool) → (w == v) ≡ true → member_by c (member_of w k) v (lines.Part d n) was ≡ becomes c k was (lines.Part d n)
-part_here c w k v d n was e = by (name_eq d c) (w == v) (k == n) (n == k) was e (turned k n)
+part_here c w k v d n was e = by (bytes_eq d c) (w == v) (k == n) (n == k) was e (turned k n)
   where
     by : (a b i j was : Bool) → b ≡ true → i ≡ j → (not (a && (b && i)) && was) ≡ cond (a && j) false was
     by true true true true was e f = refl
@@ -343,7 +343,7 @@ part_here c w k v d n was e = by (name_eq d c) (w == v) (k == n) (n == k) was e 
 
 -- and leaves those of others
 join_there : (c : List ℕ) (w k v : ℕ) (d : List ℕ) (n : ℕ) (was : Bool) → (w == v) ≡ false → member_by c (member_of w k) v (lines.Join d n) was ≡ was
-join_there c w k v d n was e = by (name_eq d c) (w == v) (k == n) was e
+join_there c w k v d n was e = by (bytes_eq d c) (w == v) (k == n) was e
   where
     by : (a b i was : Bool) → b ≡ false → ((a && (b && i)) || was) ≡ was
     by true true i was e = absurd cc
@@ -351,7 +351,7 @@ join_there c w k v d n was e = by (name_eq d c) (w == v) (k == n) was e
     by false b i was e = refl
 
 part_there : (c : List ℕ) (w k v : ℕ) (d : List ℕ) (n : ℕ) (was : Bool) → (w == v) ≡ false → member_by c (member_of w k) v (lines.Part d n) was ≡ was
-part_there c w k v d n was e = by (name_eq d c) (w == v) (k == n) was e
+part_there c w k v d n was e = by (bytes_eq d c) (w == v) (k == n) was e
   where
     by : (a b i was : Bool) → b ≡ false → (not (a && (b && i)) && was) ≡ was
     by true true i was e = absurd cc
@@ -359,8 +359,8 @@ part_there c w k v d n was e = by (name_eq d c) (w == v) (k == n) was e
     by false b i was e = refl
 
 -- a deletion ends who was a member: then it isn't let join again
-gone_heard : (c : List ℕ) (k : ℕ) (d : List ℕ) (was : Bool) (rest : List AlertLine) → one_if was + joins c k rest ≤ 1 → membership c k (not (name_eq d c) && was) rest ≡ membership c k was rest && not (name_eq d c && was)
-gone_heard c k d was rest few = by (name_eq d c) was few
+gone_heard : (c : List ℕ) (k : ℕ) (d : List ℕ) (was : Bool) (rest : List AlertLine) → one_if was + joins c k rest ≤ 1 → membership c k (not (bytes_eq d c) && was) rest ≡ membership c k was rest && not (bytes_eq d c && was)
+gone_heard c k d was rest few = by (bytes_eq d c) was few
   where
     none_left : (n : ℕ) → 1 + n ≤ 1 → n ≡ 0
     none_left n few = omega (arith, few)
@@ -394,8 +394,8 @@ other_heard c w k v (lines.Part d n) was rest e few = ap (λ z. membership c k z
 other_heard c w k v line was rest e few = sym (all_of (membership c k was rest))
 
 -- nobody is a member, or is told, who was neither a member nor let join
-gone_few : (d c : List ℕ) (was : Bool) → one_if (not (name_eq d c) && was) + one_if (name_eq d c && was) ≤ one_if was
-gone_few d c was = by (name_eq d c) was
+gone_few : (d c : List ℕ) (was : Bool) → one_if (not (bytes_eq d c) && was) + one_if (bytes_eq d c && was) ≤ one_if was
+gone_few d c was = by (bytes_eq d c) was
   where
     by : (a was : Bool) → one_if (not a && was) + one_if (a && was) ≤ one_if was
     by true true = omega arith
@@ -408,7 +408,7 @@ line_few c w k v (lines.Delete r d) was e = more _ (one_if was) (gone_few d c wa
   where
     more : (m n : ℕ) → m ≤ n → m ≤ n + 0
     more m n few = omega (arith, few)
-line_few c w k v (lines.Join d n) was e = by (name_eq d c) (w == v) (k == n) (n == k) was e (turned k n)
+line_few c w k v (lines.Join d n) was e = by (bytes_eq d c) (w == v) (k == n) (n == k) was e (turned k n)
   where
     by : (a b i j was : Bool) → b ≡ true → i ≡ j → one_if ((a && (b && i)) || was) + 0 ≤ one_if was + one_if (a && j)
     by true true true true true e f = omega arith
@@ -418,7 +418,7 @@ line_few c w k v (lines.Join d n) was e = by (name_eq d c) (w == v) (k == n) (n 
     by true true false true was e f = absurd cc
     by true false i j was e f = absurd cc
     by false b i j was e f = omega arith
-line_few c w k v (lines.Part d n) was e = by (name_eq d c && is_same (member_of w k) v n) was
+line_few c w k v (lines.Part d n) was e = by (bytes_eq d c && is_same (member_of w k) v n) was
   where
     by : (a was : Bool) → one_if (not a && was) + 0 ≤ one_if was + 0
     by true true = omega arith
@@ -505,9 +505,9 @@ module _ (setup : Setup) (is : IsSetup setup) (x v : ℕ) (p : Packet) (ps : Lis
 
   -- who hears that a channel is gone hears it of its owner
   unlost : (k : ℕ) (c : List ℕ) (line : AlertLine) → IsLineTo setup.workers v x line → (owner_of setup.workers c == v) ≡ false → loses c k line ≡ false
-  unlost k c (lines.Gone d subs) owns other = by (name_eq d c) refl
+  unlost k c (lines.Gone d subs) owns other = by (bytes_eq d c) refl
     where
-      by : (b : Bool) → name_eq d c ≡ b → b && is_named k subs ≡ false
+      by : (b : Bool) → bytes_eq d c ≡ b → b && is_named k subs ≡ false
       by true same = absurd (true≢false (sym (eqb_of (owner_of setup.workers c) v (sym owns ∙ ap (owner_of setup.workers) (same_text d c (sym same)))) ∙ other))
       by false same = refl
   unlost k c line owns other = refl

@@ -2,10 +2,10 @@
 use Rattle.std.proofs.Common.{◌≡◌, ℕ, Bool, true, false, cond, not, List, [], ◌∷◌, ◌++◌, Option, Some, None, refl, sym, ap, ◌∙◌, subst, map, fold, length, suc, arith}
 use Rattle.std.proofs.lemmas.Bool.{true≢false}
 use Rattle.std.proofs.lemmas.Bool.Decides.{nat_tests}
-use Rattle.std.specs.Prelude.{◌==◌, ◌&&◌, ◌||◌, nat_eq, is_some, unwrap_or}
+use Rattle.std.specs.Prelude.{◌==◌, ◌&&◌, ◌||◌, nat_eq, is_some, unwrap_or, bytes_eq}
 use Rattle.std.specs.List.{AllByRecursion, list_any}
 use Rattle.std.specs.Cmp.Lexicographic.{same_text}
-use Rattle.nc_types.specs.Channel.{name_eq, owner_of}
+use Rattle.nc_types.specs.Channel.{owner_of}
 use Rattle.nc_types.specs.Message.{Message}
 use Rattle.nc_journal.specs.History.{onto}
 use Rattle.nc_journal.specs.declared.event.Event.{Event}
@@ -43,7 +43,7 @@ use Rattle.nc_spool_members.specs.Members.{is_named}
 use Rattle.nc_worker_state.specs.Incoming.{Incoming, TakesPacket, ClockReads, Reaps, Posts, Subscribes, Removes, Informs}
 use Rattle.nc_worker_state.specs.Owned.{Holding, OwnersPart, StepPolls, fenced, owned_by, owned_in, order_of, member_of}
 use Rattle.nc_worker_state.specs.Worker.{sent_to, woven, part_woven}
-use Rattle.nc_world_laws.specs.Kinds.{IsUnmade}
+use Rattle.nc_world_laws.proofs.WorkerKinds.{IsUnmade}
 use Rattle.nc_world_laws.proofs.Local.{eq_of}
 use Rattle.nc_world_laws.proofs.Telling.{PartEvents}
 use Rattle.nc_world_members.specs.Members.{loses, is_lost}
@@ -60,10 +60,10 @@ none_of true = refl
 none_of false = refl
 
 -- a fact of one name is a fact of the other, where they are the same
-by_name : (d c : List ℕ) (is : List ℕ → Bool) → (name_eq d c && is d) ≡ (name_eq d c && is c)
-by_name d c is = by (name_eq d c) refl
+by_name : (d c : List ℕ) (is : List ℕ → Bool) → (bytes_eq d c && is d) ≡ (bytes_eq d c && is c)
+by_name d c is = by (bytes_eq d c) refl
   where
-    by : (t : Bool) → name_eq d c ≡ t → (t && is d) ≡ (t && is c)
+    by : (t : Bool) → bytes_eq d c ≡ t → (t && is d) ≡ (t && is c)
     by true e = ap is (same_text d c (sym e))
     by false e = refl
 
@@ -72,9 +72,9 @@ by_name d c is = by (name_eq d c) refl
 module _ (c : List ℕ) (m : Member) where
   same_onto : (es h l : List Event) → is_member c m h ≡ is_member c m l → is_member c m (onto es h) ≡ is_member c m (onto es l)
   same_onto [] h l e = e
-  same_onto (Joined w d from k ∷ es) h l e = same_onto es _ _ (ap (λ b. (name_eq d c && is_same m from k) || b) e)
-  same_onto (Parted w d from k ∷ es) h l e = same_onto es _ _ (ap (λ b. not (name_eq d c && is_same m from k) && b) e)
-  same_onto (Removed w d last cause ∷ es) h l e = same_onto es _ _ (ap (λ b. not (name_eq d c) && b) e)
+  same_onto (Joined w d from k ∷ es) h l e = same_onto es _ _ (ap (λ b. (bytes_eq d c && is_same m from k) || b) e)
+  same_onto (Parted w d from k ∷ es) h l e = same_onto es _ _ (ap (λ b. not (bytes_eq d c && is_same m from k) && b) e)
+  same_onto (Removed w d last cause ∷ es) h l e = same_onto es _ _ (ap (λ b. not (bytes_eq d c) && b) e)
   same_onto (e ∷ es) h l same = same_onto es (e ∷ h) (e ∷ l) same
 
   made_members : (v : ℕ) (next : ℕ → ℕ) (alerts : List OutLine) (l : List Event) → is_member c m (onto (makes v next alerts) l) ≡ is_member c m l
@@ -91,11 +91,11 @@ module _ (c : List ℕ) (m : Member) where
   unwoven v next (e ∷ es) alerts l = unwoven v next es alerts (e ∷ l)
 
   -- a removed channel has no members
-  removal_members : (d : List ℕ) (cause : RemovedCause) (s : OwnerAt) (l : List Event) → is_member c m (onto (removal_events d cause s) l) ≡ not (name_eq d c) && is_member c m l
+  removal_members : (d : List ℕ) (cause : RemovedCause) (s : OwnerAt) (l : List Event) → is_member c m (onto (removal_events d cause s) l) ≡ not (bytes_eq d c) && is_member c m l
   removal_members d cause s l =
       let lefts = removal_lefts d Deleted s in
       ap (is_member c m) (onto_append lefts (Removed s.desk.me d (last_in d s) cause ∷ []) l)
-      ∙ ap (λ b. not (name_eq d c) && b) (memberless_onto c m lefts l (less_left s.desk.me d Deleted (entries_of (opened d s))))
+      ∙ ap (λ b. not (bytes_eq d c) && b) (memberless_onto c m lefts l (less_left s.desk.me d Deleted (entries_of (opened d s))))
 
 -- ---- what an owner knows of members
 
@@ -190,11 +190,11 @@ module _ (c : List ℕ) (k w : ℕ) where
       same = grind (arith, nat_tests)
 
   -- the removal of a channel tells its members
-  gones_lost : (d : List ℕ) (ms : List Member) (ws : List ℕ) → loses_all (map (gone_line d ms) ws) ≡ name_eq d c && is_told_member (member_of w k) (map (gone_line d ms) ws)
-  gones_lost d ms [] = sym (none_of (name_eq d c))
+  gones_lost : (d : List ℕ) (ms : List Member) (ws : List ℕ) → loses_all (map (gone_line d ms) ws) ≡ bytes_eq d c && is_told_member (member_of w k) (map (gone_line d ms) ws)
+  gones_lost d ms [] = sym (none_of (bytes_eq d c))
   gones_lost d ms (v ∷ ws) =
-      (λ i. (turned i && (name_eq d c && named_number (numbers_of v ms) i)) || gones_lost d ms ws i)
-      ∙ by (name_eq d c) (v == w) (has_number k (numbers_of v ms)) (is_told_member (member_of w k) (map (gone_line d ms) ws))
+      (λ i. (turned i && (bytes_eq d c && named_number (numbers_of v ms) i)) || gones_lost d ms ws i)
+      ∙ by (bytes_eq d c) (v == w) (has_number k (numbers_of v ms)) (is_told_member (member_of w k) (map (gone_line d ms) ws))
     where
       turned : (w == v) ≡ (v == w)
       turned = grind (arith, nat_tests)
@@ -208,10 +208,10 @@ module _ (c : List ℕ) (k w : ℕ) where
 
 module _ (me workers slots first : ℕ) (row : List (Slot Message)) (l : List Event) (s : OwnerAt) (k : Keeps me workers slots first row l s) where
   -- where the channel isn't there it has no members
-  gone_already : (d c : List ℕ) (m : Member) → exists d s ≡ false → is_member c m l ≡ not (name_eq d c) && is_member c m l
-  gone_already d c m e = by (name_eq d c) refl
+  gone_already : (d c : List ℕ) (m : Member) → exists d s ≡ false → is_member c m l ≡ not (bytes_eq d c) && is_member c m l
+  gone_already d c m e = by (bytes_eq d c) refl
     where
-      by : (t : Bool) → name_eq d c ≡ t → is_member c m l ≡ not t && is_member c m l
+      by : (t : Bool) → bytes_eq d c ≡ t → is_member c m l ≡ not t && is_member c m l
       by true same = ap (λ (x : List ℕ). is_member x m l) (sym (same_text d c (sym same))) ∙ no_members me workers slots first row l s k.stands d m e
       by false same = refl
 
@@ -222,15 +222,15 @@ module _ (me workers slots first : ℕ) (row : List (Slot Message)) (l : List Ev
   touched_member d c m = memberless_onto c m (touch_events_of d row s) l (less_touched d)
 
   -- it takes all members of the channel
-  pub delete_members : (d c : List ℕ) (m : Member) → is_member c m (onto (delete_events d row s) l) ≡ not (name_eq d c) && is_member c m l
+  pub delete_members : (d c : List ℕ) (m : Member) → is_member c m (onto (delete_events d row s) l) ≡ not (bytes_eq d c) && is_member c m l
   delete_members d c m = ap (is_member c m) (onto_append (touch_events_of d row s) (events_of_removal (exists d s) ByDeletion d (touch_after d row s)) l) ∙ by (exists d s) refl
     where
-      by : (b : Bool) → exists d s ≡ b → is_member c m (onto (events_of_removal b ByDeletion d (touch_after d row s)) (onto (touch_events_of d row s) l)) ≡ not (name_eq d c) && is_member c m l
-      by true e = removal_members c m d ByDeletion (touch_after d row s) (onto (touch_events_of d row s) l) ∙ ap (λ b. not (name_eq d c) && b) (touched_member d c m)
+      by : (b : Bool) → exists d s ≡ b → is_member c m (onto (events_of_removal b ByDeletion d (touch_after d row s)) (onto (touch_events_of d row s) l)) ≡ not (bytes_eq d c) && is_member c m l
+      by true e = removal_members c m d ByDeletion (touch_after d row s) (onto (touch_events_of d row s) l) ∙ ap (λ b. not (bytes_eq d c) && b) (touched_member d c m)
       by false e = touched_member d c m ∙ gone_already d c m e
 
   -- and tells them
-  pub delete_lost : (from r : ℕ) (d c : List ℕ) (n w : ℕ) → loses_all c n w (delete_alerts from r d row s) ≡ name_eq d c && is_member c (member_of w n) l
+  pub delete_lost : (from r : ℕ) (d c : List ℕ) (n w : ℕ) → loses_all c n w (delete_alerts from r d row s) ≡ bytes_eq d c && is_member c (member_of w n) l
   delete_lost from r d c n w =
       more_lost c n w (alerts_of_removal (exists d s) d (touch_after d row s)) (cond (exists d s) (delete_answer from r 200 (Some (info_of (touched_of d row s).channel))) (delete_answer from r 404 None) ∷ [])
       ∙ by (exists d s) refl
@@ -246,14 +246,14 @@ module _ (me workers slots first : ℕ) (row : List (Slot Message)) (l : List Ev
       ready = touch_keeps me workers slots first d row l s k
 
       by : (b : Bool) → exists d s ≡ b
-          → loses_all c n w (alerts_of_removal b d (touch_after d row s)) || loses_all c n w (cond b (delete_answer from r 200 (Some (info_of (touched_of d row s).channel))) (delete_answer from r 404 None) ∷ []) ≡ name_eq d c && is_member c (member_of w n) l
+          → loses_all c n w (alerts_of_removal b d (touch_after d row s)) || loses_all c n w (cond b (delete_answer from r 200 (Some (info_of (touched_of d row s).channel))) (delete_answer from r 404 None) ∷ []) ≡ bytes_eq d c && is_member c (member_of w n) l
       by true e =
           ap (λ z. loses_all c n w (removal_alerts d (touch_after d row s)) || z) (none_told from)
           ∙ with_none (loses_all c n w (removal_alerts d (touch_after d row s)))
           ∙ (let ch = opened d (touch_after d row s) in gones_lost c n w d ch.members (concerned ch))
-          ∙ ap (λ z. name_eq d c && z) (members_told me workers slots first d (member_of w n) (touched_row d row s) (onto (touch_events_of d row s) l) (touch_after d row s) ready.stands ∙ touched_member d d (member_of w n))
+          ∙ ap (λ z. bytes_eq d c && z) (members_told me workers slots first d (member_of w n) (touched_row d row s) (onto (touch_events_of d row s) l) (touch_after d row s) ready.stands ∙ touched_member d d (member_of w n))
           ∙ by_name d c (λ x. is_member x (member_of w n) l)
-      by false e = none_told from ∙ sym (ap (λ z. name_eq d c && z) (no_members me workers slots first row l s k.stands d (member_of w n) e) ∙ none_of (name_eq d c)) ∙ by_name d c (λ x. is_member x (member_of w n) l)
+      by false e = none_told from ∙ sym (ap (λ z. bytes_eq d c && z) (no_members me workers slots first row l s k.stands d (member_of w n) e) ∙ none_of (bytes_eq d c)) ∙ by_name d c (λ x. is_member x (member_of w n) l)
 
   -- ---- a sweep of a channel that is removed where it has no member
 
@@ -269,7 +269,7 @@ module _ (me workers slots first : ℕ) (row : List (Slot Message)) (l : List Ev
         none (x ∷ ms) e = let no : (suc (length ms) == 0) ≡ false = grind (arith, nat_tests) in absurd (true≢false (sym e ∙ no))
 
     reaped_members : (c : List ℕ) (m : Member) → is_member c m (onto (removal_events d Reaped (touch_after d row s)) (onto (touch_events_of d row s) l)) ≡ is_member c m l
-    reaped_members c m = removal_members c m d Reaped (touch_after d row s) (onto (touch_events_of d row s) l) ∙ ap (λ b. not (name_eq d c) && b) (touched_member d c m) ∙ by (name_eq d c) refl
+    reaped_members c m = removal_members c m d Reaped (touch_after d row s) (onto (touch_events_of d row s) l) ∙ ap (λ b. not (bytes_eq d c) && b) (touched_member d c m) ∙ by (bytes_eq d c) refl
       where
         ready : Keeps me workers slots first (touched_row d row s) (onto (touch_events_of d row s) l) (touch_after d row s)
         ready = touch_keeps me workers slots first d row l s k
@@ -277,7 +277,7 @@ module _ (me workers slots first : ℕ) (row : List (Slot Message)) (l : List Ev
         nobody : is_member d m l ≡ false
         nobody = sym (touched_member d d m) ∙ sym (knows_members me workers slots first (touched_row d row s) (onto (touch_events_of d row s) l) (touch_after d row s) ready.stands d m) ∙ ap (has_member m) nobody_left
 
-        by : (t : Bool) → name_eq d c ≡ t → not t && is_member c m l ≡ is_member c m l
+        by : (t : Bool) → bytes_eq d c ≡ t → not t && is_member c m l ≡ is_member c m l
         by true same = sym (ap (λ (x : List ℕ). is_member x m l) (sym (same_text d c (sym same))) ∙ nobody)
         by false same = refl
 
@@ -294,7 +294,7 @@ module _ (me workers slots first : ℕ) (row : List (Slot Message)) (l : List Ev
     where
       nobody : (ws : List ℕ) → loses_all c n w (map (gone_line d []) ws) ≡ false
       nobody [] = refl
-      nobody (v ∷ ws) = ap (λ z. ((w == v) && z) || loses_all c n w (map (gone_line d []) ws)) (none_of (name_eq d c)) ∙ ap (λ z. z || loses_all c n w (map (gone_line d []) ws)) (none_of (w == v)) ∙ nobody ws
+      nobody (v ∷ ws) = ap (λ z. ((w == v) && z) || loses_all c n w (map (gone_line d []) ws)) (none_of (bytes_eq d c)) ∙ ap (λ z. z || loses_all c n w (map (gone_line d []) ws)) (none_of (w == v)) ∙ nobody ws
 
       by : (b : Bool) → is_reaped d row s ≡ b → loses_all c n w (alerts_of_removal b d (touch_after d row s)) ≡ false
       by true e = ap (λ ms. loses_all c n w (map (gone_line d ms) (concerned (opened d (touch_after d row s))))) (nobody_left d e) ∙ nobody (concerned (opened d (touch_after d row s)))
@@ -348,7 +348,7 @@ module _ (me workers slots first : ℕ) (next : ℕ → ℕ) (l : List Event) wh
   Knows incoming s = Unit {0}
 
   module _ (c : List ℕ) (m : Member) where
-    parts_case : (has t is : Bool) (w from n : ℕ) (d : List ℕ) (before : List Event) → t ≡ (name_eq d c && is_same m from n) → is_member c m before ≡ is → (t ≡ true → has ≡ is) → is_member c m (onto (cond has (Parted w d from n ∷ []) []) before) ≡ not t && is
+    parts_case : (has t is : Bool) (w from n : ℕ) (d : List ℕ) (before : List Event) → t ≡ (bytes_eq d c && is_same m from n) → is_member c m before ≡ is → (t ≡ true → has ≡ is) → is_member c m (onto (cond has (Parted w d from n ∷ []) []) before) ≡ not t && is
     parts_case true t is w from n d before e f k = ap (λ z. not z && is_member c m before) (sym e) ∙ ap (λ z. not t && z) f
     parts_case false true is w from n d before e f k = f ∙ sym (k refl)
     parts_case false false is w from n d before e f k = f
@@ -365,9 +365,9 @@ module _ (me workers slots first : ℕ) (next : ℕ → ℕ) (l : List Event) wh
       touched : (d : List ℕ) → is_member c m (onto (touch_events_of d s.row s.owner) l) ≡ is_member c m l
       touched d = memberless_onto c m (touch_events_of d s.row s.owner) l (less_touch d s)
 
-      kept : (d : List ℕ) (n : ℕ) → (name_eq d c && is_same m from n) ≡ true → has_member (member_of from n) (opened d s.owner).members ≡ is_member c m l
+      kept : (d : List ℕ) (n : ℕ) → (bytes_eq d c && is_same m from n) ≡ true → has_member (member_of from n) (opened d s.owner).members ≡ is_member c m l
       kept d n e =
-          let q = both (name_eq d c) (is_same m from n) e in
+          let q = both (bytes_eq d c) (is_same m from n) e in
           let r = both (m.from == from) (m.k == n) q.1 in
           knows_members me workers slots first s.row l s.owner k.stands d (member_of from n)
           ∙ (λ i. is_member (same_text d c (sym q.0) i) (member_of (sym (eq_of m.from from r.0) i) (sym (eq_of m.k n r.1) i)) l)
@@ -376,9 +376,9 @@ module _ (me workers slots first : ℕ) (next : ℕ → ℕ) (l : List Event) wh
       less es p = memberless_onto c m es l p
 
       by_line : (line : AlertLine) → After line
-      by_line (lines.Join d n) = then_member d _ ∙ ap (λ z. (name_eq d c && is_same m from n) || z) (touched d)
+      by_line (lines.Join d n) = then_member d _ ∙ ap (λ z. (bytes_eq d c && is_same m from n) || z) (touched d)
       by_line (lines.Part d n) = then_member d (parted_events s.owner.desk.me (member_of from n) d (opened d s.owner))
-          ∙ parts_case (has_member (member_of from n) (opened d s.owner).members) (name_eq d c && is_same m from n) (is_member c m l) s.owner.desk.me from n d (onto (touch_events_of d s.row s.owner) l) refl (touched d) (kept d n)
+          ∙ parts_case (has_member (member_of from n) (opened d s.owner).members) (bytes_eq d c && is_same m from n) (is_member c m l) s.owner.desk.me from n d (onto (touch_events_of d s.row s.owner) l) refl (touched d) (kept d n)
       by_line (lines.Publish r d len timeout ct body) = less _ (less_publish polls from (order_of r d len timeout ct body) s)
       by_line (lines.Look number d after fence) = less _ (less_behind fence s _ (less_look from number d after (fenced fence s)))
       by_line (lines.Info r d) = less _ (less_touch d s)

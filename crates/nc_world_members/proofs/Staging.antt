@@ -24,7 +24,7 @@ use Rattle.nc_world.specs.World.{World, handled_events, handled}
 use Rattle.nc_world.specs.Moves.{carried_one, with_ring}
 use Rattle.nc_world.specs.Reached.{IsSetup, IsInput}
 use Rattle.nc_world_laws.specs.Good.{Good}
-use Rattle.nc_world_laws.specs.WorldTheme.{IsWorldTheme}
+use Rattle.nc_world_laws.proofs.WorldTheme.{IsWorldTheme}
 use Rattle.nc_world_laws.proofs.Local.{eqb_self}
 use Rattle.nc_world_laws.proofs.Acting.{with_all}
 use Rattle.nc_world_laws.proofs.Parts.{owns, serves, before, part}

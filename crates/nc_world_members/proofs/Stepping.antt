@@ -20,7 +20,7 @@ use Rattle.nc_owner.specs.AlertLines.{OutLine}
 use Rattle.nc_history.specs.Packets.{lines_of}
 use Rattle.nc_world.specs.World.{World, seat, polls_of, handled_events}
 use Rattle.nc_world.specs.Reached.{IsSetup}
-use Rattle.nc_world_laws.specs.Kinds.{IsUnmade, IsOfWorker, AsksOwner}
+use Rattle.nc_world_laws.proofs.WorkerKinds.{IsUnmade, IsOfWorker, AsksOwner}
 use Rattle.nc_world_laws.specs.Good.{Good}
 use Rattle.nc_world_laws.proofs.Local.{eqb_self, eq_of}
 use Rattle.nc_world_laws.proofs.Telling.{all_events_of, told_made, deeds_do, deeds_make, unmade_owner, unmade_worker}

@@ -1,7 +1,7 @@
 -- Members of channels: by the owner's history, by what is on its way to the owner and back, and by the spools of their worker.
-use Rattle.std.specs.Prelude.{◌≡◌, ℕ, ◌+◌, ◌≤◌, Bool, true, false, not, List, [], ◌∷◌, if◌then◌else◌, fold, ◌==◌, ◌&&◌}
+use Rattle.std.specs.Prelude.{◌≡◌, ℕ, ◌+◌, ◌≤◌, Bool, true, false, not, List, [], ◌∷◌, if◌then◌else◌, fold, ◌==◌, ◌&&◌, bytes_eq}
 use Rattle.std.specs.List.{list_any}
-use Rattle.nc_types.specs.Channel.{name_eq, owner_of}
+use Rattle.nc_types.specs.Channel.{owner_of}
 use Rattle.nc_journal.specs.History.{own}
 use Rattle.nc_journal.specs.Standing.{is_subscribed}
 use Rattle.nc_journal.specs.declared.event.Event.{Event}
@@ -22,8 +22,8 @@ use Rattle.nc_world.specs.World.{World}
 
 -- whether a subscriber is a member of a channel once its owner took an alert of the subscriber's worker
 abbrev pub becomes : List ℕ → ℕ → Bool → AlertLine → Bool
-becomes c k is (Join d n) = if name_eq d c && (n == k) then true else is
-becomes c k is (Part d n) = if name_eq d c && (n == k) then false else is
+becomes c k is (Join d n) = if bytes_eq d c && (n == k) then true else is
+becomes c k is (Part d n) = if bytes_eq d c && (n == k) then false else is
 becomes c k is line = is
 
 -- once it took some of them, the first one first
@@ -35,7 +35,7 @@ abbrev pub one_if : Bool → ℕ
 one_if b = if b then 1 else 0
 
 abbrev pub joining : List ℕ → ℕ → AlertLine → ℕ
-joining c k (Join d n) = one_if (name_eq d c && (n == k))
+joining c k (Join d n) = one_if (bytes_eq d c && (n == k))
 joining c k line = 0
 
 abbrev pub joins : List ℕ → ℕ → List AlertLine → ℕ
@@ -46,7 +46,7 @@ joins c k (line ∷ lines) = joining c k line + joins c k lines
 
 -- an alert tells a subscriber that a channel is gone of which it was a member, and one of some alerts does
 abbrev pub loses : List ℕ → ℕ → AlertLine → Bool
-loses c k (Gone d subs) = name_eq d c && is_named k subs
+loses c k (Gone d subs) = bytes_eq d c && is_named k subs
 loses c k line = false
 
 abbrev pub is_lost : List ℕ → ℕ → List AlertLine → Bool
@@ -77,7 +77,8 @@ ways setup w k c h = one_if (is_known setup w k c h) + joins c k (towards setup 
 -- that it is gone; each subscriber belongs to a channel in one way at most, and in none before it was ever subscribed;
 -- nobody stands twice, no list names a channel twice, and a number that was never subscribed stands nowhere
 pub record HasMembers (setup : Setup) (h : List Event) (world : World) : Type 0 where
-  pub members : (w k : ℕ) (c : List ℕ) → membership c k (is_known setup w k c h) (towards setup w c h) ≡ stands_with c k (spools_at world w) && not (is_lost c k (back setup w c h))
+  pub members : (w k : ℕ) (c : List ℕ)
+      → membership c k (is_known setup w k c h) (towards setup w c h) ≡ stands_with c k (spools_at world w) && not (is_lost c k (back setup w c h))
   pub once : (w k : ℕ) (c : List ℕ) → ways setup w k c h ≤ one_if (is_subscribed k (own w h))
   pub singly : (w : ℕ) → StandSingly (world.workers w).desk.spools
   pub known : (w k : ℕ) → is_subscribed k (own w h) ≡ false → stands k (spools_at world w) ≡ 0

@@ -37,7 +37,7 @@ use Rattle.nc_world_told.specs.Written.{written, so_far}
 use Rattle.nc_world_told.specs.Readers.{StandHere, IsNotIn}
 use Rattle.nc_world_told.proofs.Written.{written_is, IsAway}
 use Rattle.nc_world_told.proofs.Sends.{Appends, IsOut, same_facts, one_fact, then_facts, weaker}
-use Rattle.nc_world_told.proofs.Staying.{Fits, outs_still, decided_fits, once_in, apart_from, all_both, away_stands}
+use Rattle.nc_world_told.proofs.Staying.{StandsApart, outs_still, decided_fits, once_in, apart_from, all_both, away_stands}
 use Rattle.nc_world_ordered.specs.Orderly.{IsOrderly, AnswerOrderly, NoticeOrderly, ArrivalOrderly}
 use Rattle.nc_world_ordered.proofs.Deciding.{outs_orderly, decided_orderly}
 use Rattle.nc_world_ordered.proofs.Edging.{edges_outs, starts_orderly}
@@ -92,7 +92,7 @@ module _ (me : ℕ) (c : List ℕ) (news : News) (next : ℕ → ℕ) (h : List 
         (all_both (λ (y : SpoolAt). StandHere me y (so_far me Answered next h b)) (λ (y : SpoolAt). AllByRecursion (λ (r : Reader). IsNotIn r.k y) s.readers) b.shelf k.stand (apart_from s.readers b.shelf b.shelf few (λ n. omega arith))) in
         record {
           orderly = decided_orderly me next h (with_place j p s) b once stand k.orderly;
-          stand = all-changed (Fits me Answered next h (decided (with_place j p s) b).facts []) (λ (x : SpoolAt). StandHere me x (so_far me Answered next h (decided (with_place j p s) b))) (decided (with_place j p s) b).shelf (λ x f. f.0) fits;
+          stand = all-changed (StandsApart me Answered next h (decided (with_place j p s) b).facts []) (λ (x : SpoolAt). StandHere me x (so_far me Answered next h (decided (with_place j p s) b))) (decided (with_place j p s) b).shelf (λ x f. f.0) fits;
         }
 
     treats : Carries (noticed_in c news s b)

@@ -26,11 +26,13 @@ AllStand me h s = AllByRecursion (λ x. StandHere me x h) s.shelf
 
 -- an answer, behind what stands before
 abbrev pub AnswerOrderly : Type 0
-AnswerOrderly = (me number q floor : ℕ) (found : Option (Found Hold)) (next : ℕ → ℕ) (h : List Event) (s : SpoolsAt Hold) → StandOnce (board_of s) → AllStand me h s
+AnswerOrderly = (me number q floor : ℕ) (found : Option (Found Hold)) (next : ℕ → ℕ) (h : List Event) (s : SpoolsAt Hold) → StandOnce (board_of s)
+    → AllStand me h s
     → IsOrderly h → IsOrderly (onto (told me next (answers me number q floor found s).deeds) h)
 
 abbrev pub NoticeOrderly : Type 0
-NoticeOrderly = (me : ℕ) (c : List ℕ) (found : Found Hold) (next : ℕ → ℕ) (h : List Event) (s : SpoolsAt Hold) → StandOnce (board_of s) → AllStand me h s
+NoticeOrderly = (me : ℕ) (c : List ℕ) (found : Found Hold) (next : ℕ → ℕ) (h : List Event) (s : SpoolsAt Hold) → StandOnce (board_of s)
+    → AllStand me h s
     → IsOrderly h → IsOrderly (onto (told me next (notices me c found s).deeds) h)
 
 -- each subscriber that isn't started yet is starting by the history, behind the newest messages of its list
@@ -44,10 +46,12 @@ EdgeOrderly = (me number floor : ℕ) (last : Id) (next : ℕ → ℕ) (h : List
 
 -- a channel is gone: each subscriber that is ended starts or stands by the history
 abbrev pub LossOrderly : Type 0
-LossOrderly = (me : ℕ) (c subs : List ℕ) (next : ℕ → ℕ) (h : List Event) (s : SpoolsAt Hold) → StandOnce (board_of s) → AllStand me h s → AllStart me h s
+LossOrderly = (me : ℕ) (c subs : List ℕ) (next : ℕ → ℕ) (h : List Event) (s : SpoolsAt Hold) → StandOnce (board_of s) → AllStand me h s
+    → AllStart me h s
     → IsOrderly h → IsOrderly (onto (told me next (loses me c subs s).deeds) h)
 
 -- a subscriber that subscribed comes
 abbrev pub ArrivalOrderly : Type 0
-ArrivalOrderly = (me k : ℕ) (list : List (List ℕ)) (start : Start) (once : Bool) (next : ℕ → ℕ) (h : List Event) (s : SpoolsAt Hold) → stage_of k (own me h) ≡ Starting list once start
+ArrivalOrderly = (me k : ℕ) (list : List (List ℕ)) (start : Start) (once : Bool) (next : ℕ → ℕ) (h : List Event) (s : SpoolsAt Hold)
+    → stage_of k (own me h) ≡ Starting list once start
     → IsOrderly h → IsOrderly (onto (told me next (arrives me k list start once s).deeds) h)

@@ -28,7 +28,7 @@ use Rattle.nc_owner.specs.Remove.{removal_lefts, removal_events, removal_alerts}
 use Rattle.nc_owner_laws.specs.Aside.{IsAside}
 use Rattle.nc_owner_laws.specs.Weave.{weave}
 use Rattle.nc_worker_state.specs.Setup.{Setup}
-use Rattle.nc_world_laws.specs.OwnerTheme.{OwnerFact, IsOwnerTheme}
+use Rattle.nc_world_laws.proofs.OwnerTheme.{OwnerFact, IsOwnerTheme}
 use Rattle.nc_world_laws.proofs.Local.{all_append}
 use Rattle.nc_world_laws.proofs.Telling.{woven_all}
 use Rattle.nc_world_laws.proofs.Stepping.{is_me}

@@ -29,9 +29,9 @@ use Rattle.nc_world.specs.World.{World, seat, polls_of, handled_events, waiting_
 use Rattle.nc_world.specs.Follows.{pending_count}
 use Rattle.nc_world.specs.Reached.{IsSetup, IsInput, Reached}
 use Rattle.nc_owner_laws.specs.Kinds.{IsOfOwner}
-use Rattle.nc_world_laws.specs.Kinds.{IsBy, IsOfWorker, AsksOwner}
+use Rattle.nc_world_laws.proofs.WorkerKinds.{IsBy, IsOfWorker, AsksOwner}
 use Rattle.nc_world_laws.specs.Good.{Good}
-use Rattle.nc_world_laws.specs.WorldTheme.{WorldFact, IsWorldTheme}
+use Rattle.nc_world_laws.proofs.WorldTheme.{WorldFact, IsWorldTheme}
 use Rattle.nc_world_laws.proofs.Local.{all_append, eq_of}
 use Rattle.nc_world_laws.proofs.Telling.{PartAlerts, told_made, deeds_do, deeds_make}
 use Rattle.nc_world_laws.proofs.Parts.{serves, before, part, behind, well, part_made, step_by}

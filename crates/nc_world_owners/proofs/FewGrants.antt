@@ -1,10 +1,9 @@
 -- No message is granted more often than one may be.
 use Rattle.std.proofs.Common.{◌≡◌, ℕ, ◌+◌, ◌<◌, ◌≤◌, Bool, true, false, cond, not, List, [], ◌∷◌, ◌++◌, Option, Some, None, refl, sym, ap, ◌∙◌, subst, map, filter, length, arith, find, unwrap_or}
-use Rattle.std.specs.Prelude.{◌==◌, ◌||◌, ◌&&◌, nat_le}
+use Rattle.std.specs.Prelude.{◌==◌, ◌||◌, ◌&&◌, nat_le, bytes_eq}
 use Rattle.std.specs.List.{AllByRecursion}
 use Rattle.std.proofs.lemmas.Bool.Decides.{nat_tests}
 use Rattle.nc_types.specs.Id.{Id, is_past}
-use Rattle.nc_types.specs.Channel.{name_eq}
 use Rattle.nc_types.specs.Message.{Message}
 use Rattle.nc_journal.specs.History.{onto}
 use Rattle.nc_journal.specs.Leaving.{grants_since, most_grants}
@@ -42,7 +41,7 @@ use Rattle.nc_owner_laws.proofs.Weaving.{GrantsNot, weave_first}
 use Rattle.nc_worker_state.specs.Setup.{Setup}
 use Rattle.nc_world.specs.Reached.{IsSetup}
 use Rattle.nc_owner_laws.proofs.Stamping.{onto_append}
-use Rattle.nc_world_laws.specs.OwnerTheme.{OwnerFact, IsOwnerTheme}
+use Rattle.nc_world_laws.proofs.OwnerTheme.{OwnerFact, IsOwnerTheme}
 use Rattle.nc_world_laws.proofs.Local.{all_append, all_of}
 use Rattle.nc_world_laws.proofs.Telling.{woven_all}
 use Rattle.nc_world_laws.proofs.Stepping.{is_me, as_me}
@@ -254,18 +253,18 @@ has_below hi (x ∷ xs) f = (f x (here x), has_below hi xs (λ u is. f u (more u
 -- who is marked looked, and is there
 marked_below : (workers : ℕ) (c : List ℕ) (u : ℕ) (h : List Event) → AllByRecursion (IsAsked workers) h → is_marked c u h ≡ true → u < workers
 marked_below workers c u [] a is = absurd cc
-marked_below workers c u (Looked w q from number d after floor None ∷ h) a is = by (name_eq d c) (u == from) refl is (marked_below workers c u h a.1)
+marked_below workers c u (Looked w q from number d after floor None ∷ h) a is = by (bytes_eq d c) (u == from) refl is (marked_below workers c u h a.1)
   where
     by : (n b : Bool) → (u == from) ≡ b → ((n && b) || is_marked c u h) ≡ true → (is_marked c u h ≡ true → u < workers) → u < workers
     by true true e i rest = let same : u ≡ from = grind (arith, nat_tests) in subst (λ (x : ℕ). x < workers) (sym same) a.0.1
     by true false e i rest = rest i
     by false b e i rest = rest i
-marked_below workers c u (Stored w d id slot len exp kept members from r ct body ∷ h) a is = marked_below workers c u h a.1 (by (name_eq d c) is)
+marked_below workers c u (Stored w d id slot len exp kept members from r ct body ∷ h) a is = marked_below workers c u h a.1 (by (bytes_eq d c) is)
   where
     by : (n : Bool) → (not n && is_marked c u h) ≡ true → is_marked c u h ≡ true
     by true i = absurd cc
     by false i = i
-marked_below workers c u (Removed w d last cause ∷ h) a is = marked_below workers c u h a.1 (by (name_eq d c) is)
+marked_below workers c u (Removed w d last cause ∷ h) a is = marked_below workers c u h a.1 (by (bytes_eq d c) is)
   where
     by : (n : Bool) → (not n && is_marked c u h) ≡ true → is_marked c u h ≡ true
     by true i = absurd cc

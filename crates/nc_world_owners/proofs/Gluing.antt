@@ -1,13 +1,13 @@
 -- What the local histories tell together: the stamp rule and the buffers of the whole history.
 use Rattle.std.proofs.Common.{◌≡◌, ℕ, ◌<◌, Bool, true, false, cond, not, List, [], ◌∷◌, ◌++◌, Option, refl, sym, ap, ◌∙◌, subst, filter}
-use Rattle.std.specs.Prelude.{◌==◌, ◌&&◌, ◌||◌}
+use Rattle.std.specs.Prelude.{◌==◌, ◌&&◌, ◌||◌, bytes_eq}
 use Rattle.std.specs.List.{AllByRecursion}
 use Rattle.std.specs.Cmp.Lexicographic.{same_text}
 use Rattle.nc_types.specs.Id.{Id, id_eq}
-use Rattle.nc_types.specs.Channel.{name_eq, owner_of}
+use Rattle.nc_types.specs.Channel.{owner_of}
 use Rattle.nc_journal.specs.History.{own, is_by, Along}
 use Rattle.nc_journal.specs.Stamp.{IsStamped, StampedAt, floor_of, stamp, last_of}
-use Rattle.nc_journal.specs.Message.{Message, message_of, published, lets_go, is_gone, buffer}
+use Rattle.nc_journal.specs.Message.{Message, stored_message, published, lets_go, is_gone, buffer}
 use Rattle.nc_journal.specs.Sending.{HasId}
 use Rattle.nc_journal.specs.declared.event.Event.{Event}
 use Rattle.nc_journal.specs.declared.event.Event.TheVariants.{Raised, Stored, Left, Removed}
@@ -49,16 +49,16 @@ module _ (workers : ℕ) where
 
   -- ---- the messages of a channel are its owner's
 
-  pub same_owner : (w : ℕ) (d c : List ℕ) → w ≡ owner_of workers d → name_eq d c ≡ true → (owner_of workers c == w) ≡ true
+  pub same_owner : (w : ℕ) (d c : List ℕ) → w ≡ owner_of workers d → bytes_eq d c ≡ true → (owner_of workers c == w) ≡ true
   same_owner w d c o e = ap (λ z. owner_of workers c == z) (o ∙ ap (owner_of workers) (same_text d c (sym e))) ∙ eqb_self (owner_of workers c)
 
   abbrev Mine : (c : List ℕ) → List Event → Type 0
   Mine c h = published c h ≡ published c (own (owner_of workers c) h)
 
-  stored_mine : (b n : Bool) (c d : List ℕ) (w : ℕ) (id : Id) (slot len exp : ℕ) (kept : Bool) (members from r : ℕ) (ct : Option (List ℕ)) (body : List ℕ) (ks : List Message) (l : List Event) → name_eq d c ≡ n → (n ≡ true → b ≡ true) → ks ≡ published c l
-      → cond n (ks ++ message_of id slot exp ct body ∷ []) ks ≡ published c (cond b (Stored w d id slot len exp kept members from r ct body ∷ l) l)
-  stored_mine true true c d w id slot len exp kept members from r ct body ks l i t e = ap (λ (z : List Message). z ++ message_of id slot exp ct body ∷ []) e ∙ ap (λ x. cond x (published c l ++ message_of id slot exp ct body ∷ []) (published c l)) (sym i)
-  stored_mine true false c d w id slot len exp kept members from r ct body ks l i t e = e ∙ ap (λ x. cond x (published c l ++ message_of id slot exp ct body ∷ []) (published c l)) (sym i)
+  stored_mine : (b n : Bool) (c d : List ℕ) (w : ℕ) (id : Id) (slot len exp : ℕ) (kept : Bool) (members from r : ℕ) (ct : Option (List ℕ)) (body : List ℕ) (ks : List Message) (l : List Event) → bytes_eq d c ≡ n → (n ≡ true → b ≡ true) → ks ≡ published c l
+      → cond n (ks ++ stored_message id slot exp ct body ∷ []) ks ≡ published c (cond b (Stored w d id slot len exp kept members from r ct body ∷ l) l)
+  stored_mine true true c d w id slot len exp kept members from r ct body ks l i t e = ap (λ (z : List Message). z ++ stored_message id slot exp ct body ∷ []) e ∙ ap (λ x. cond x (published c l ++ stored_message id slot exp ct body ∷ []) (published c l)) (sym i)
+  stored_mine true false c d w id slot len exp kept members from r ct body ks l i t e = e ∙ ap (λ x. cond x (published c l ++ stored_message id slot exp ct body ∷ []) (published c l)) (sym i)
   stored_mine false true c d w id slot len exp kept members from r ct body ks l i t e = let z = t refl in absurd cc
   stored_mine false false c d w id slot len exp kept members from r ct body ks l i t e = e
 
@@ -69,12 +69,12 @@ module _ (workers : ℕ) where
   pub published_own : (c : List ℕ) (h : List Event) → IsStamped workers h → published c h ≡ published c (own (owner_of workers c) h)
   published_own c [] s = refl
   published_own c (Stored w d id slot len exp kept members from r ct body ∷ h) s =
-      stored_mine (owner_of workers c == w) (name_eq d c) c d w id slot len exp kept members from r ct body (published c h) (own (owner_of workers c) h) refl (same_owner w d c s.1.owner) (published_own c h s.0)
+      stored_mine (owner_of workers c == w) (bytes_eq d c) c d w id slot len exp kept members from r ct body (published c h) (own (owner_of workers c) h) refl (same_owner w d c s.1.owner) (published_own c h s.0)
   published_own c (e ∷ h) s = published_own c h s.0 ∙ other_mine (is_by (owner_of workers c) e) c e (own (owner_of workers c) h) refl
 
   -- ---- who has stored there is the owner
 
-  named : (n : Bool) (w u : ℕ) (c d : List ℕ) (m : Message) (ms : List Message) (id : Id) → name_eq d c ≡ n → u ≡ owner_of workers d → w ≡ u → HasId (cond n (ms ++ m ∷ []) ms) id → (HasId ms id → w ≡ owner_of workers c) → w ≡ owner_of workers c
+  named : (n : Bool) (w u : ℕ) (c d : List ℕ) (m : Message) (ms : List Message) (id : Id) → bytes_eq d c ≡ n → u ≡ owner_of workers d → w ≡ u → HasId (cond n (ms ++ m ∷ []) ms) id → (HasId ms id → w ≡ owner_of workers c) → w ≡ owner_of workers c
   named true w u c d m ms id i o e y f = e ∙ o ∙ ap (owner_of workers) (same_text d c (sym i))
   named false w u c d m ms id i o e y f = f y
 
@@ -85,7 +85,7 @@ module _ (workers : ℕ) where
     where
       at : (b : Bool) → (w == u) ≡ b → IsStamped workers (cond b (Stored u d m slot len exp kept members from r ct body ∷ own w h) (own w h)) → HasId (published c (cond b (Stored u d m slot len exp kept members from r ct body ∷ own w h) (own w h))) id
           → (IsStamped workers (own w h) → HasId (published c (own w h)) id → w ≡ owner_of workers c) → w ≡ owner_of workers c
-      at true i t y f = named (name_eq d c) w u c d (message_of m slot exp ct body) (published c (own w h)) id refl t.1.owner (eq_of w u i) y (f t.0)
+      at true i t y f = named (bytes_eq d c) w u c d (stored_message m slot exp ct body) (published c (own w h)) id refl t.1.owner (eq_of w u i) y (f t.0)
       at false i t y f = f t y
   stored_there w c id (e ∷ h) s x = at (is_by w e) s x (stored_there w c id h)
     where
@@ -101,7 +101,7 @@ module _ (workers : ℕ) where
   gone_case false false c id e l x i t k = k
 
   goes : (c : List ℕ) (id : Id) (h : List Event) (e : Event) → ((v : ℕ) → IsStamped workers (own v (e ∷ h))) → ((v : ℕ) → Along LeavesStored (own v (e ∷ h))) → lets_go c id e ≡ true → is_by (owner_of workers c) e ≡ true
-  goes c id h (Stored w d m slot len exp kept members from r ct body) s k g = same_owner w d c (along_head (StampedAt workers) (w == w) (Stored w d m slot len exp kept members from r ct body) (own w h) (eqb_self w) (s w)).owner (part kept (name_eq d c) (id_eq m id) g)
+  goes c id h (Stored w d m slot len exp kept members from r ct body) s k g = same_owner w d c (along_head (StampedAt workers) (w == w) (Stored w d m slot len exp kept members from r ct body) (own w h) (eqb_self w) (s w)).owner (part kept (bytes_eq d c) (id_eq m id) g)
     where
       part : (a b d : Bool) → (not a && (b && d)) ≡ true → b ≡ true
       part true b d g = absurd cc
@@ -109,7 +109,7 @@ module _ (workers : ℕ) where
       part false false d g = absurd cc
   goes c id h (Left w d m slot cause) s k g =
       let has = along_head LeavesStored (w == w) (Left w d m slot cause) (own w h) (eqb_self w) (k w) in
-      same_owner w d c (stored_there w d m h (along_rest (StampedAt workers) (w == w) (Left w d m slot cause) (own w h) (s w)) has) (part (name_eq d c) (id_eq m id) g)
+      same_owner w d c (stored_there w d m h (along_rest (StampedAt workers) (w == w) (Left w d m slot cause) (own w h) (s w)) has) (part (bytes_eq d c) (id_eq m id) g)
     where
       part : (b d : Bool) → (b && d) ≡ true → b ≡ true
       part true d g = refl

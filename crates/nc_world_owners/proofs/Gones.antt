@@ -1,9 +1,9 @@
 -- Whoever is told that a channel is gone is a worker that is there.
-use Rattle.std.proofs.Common.{◌≡◌, ℕ, ◌<◌, Bool, true, false, cond, not, List, [], ◌∷◌, ◌++◌, Option, None, Some, refl, sym, ap, ◌∙◌, subst, fold, arith}
-use Rattle.std.specs.Prelude.{◌==◌, ◌||◌, ◌&&◌}
+use Rattle.std.proofs.Common.{◌≡◌, ℕ, ◌<◌, Bool, true, false, cond, not, List, [], ◌∷◌, Option, None, Some, refl, sym, ap, ◌∙◌, subst, fold, arith}
+use Rattle.std.specs.Prelude.{◌==◌, ◌||◌, ◌&&◌, bytes_eq}
 use Rattle.std.specs.List.{AllByRecursion}
 use Rattle.std.proofs.lemmas.Bool.Decides.{nat_tests}
-use Rattle.nc_types.specs.Channel.{name_eq, owner_of}
+use Rattle.nc_types.specs.Channel.{owner_of}
 use Rattle.nc_types.specs.Message.{Message}
 use Rattle.nc_types.specs.declared.info.Info.{Info}
 use Rattle.nc_journal.specs.History.{onto}
@@ -40,19 +40,19 @@ use Rattle.nc_world_owners.proofs.FewGrants.{marks_there}
 -- who is a member joined, and is there
 member_below : (workers : ℕ) (c : List ℕ) (m : Member) (h : List Event) → AllByRecursion (IsAsked workers) h → is_member c m h ≡ true → m.from < workers
 member_below workers c m [] a is = absurd cc
-member_below workers c m (Joined w d from k ∷ h) a is = by (name_eq d c) (m.from == from) (m.k == k) refl is (member_below workers c m h a.1)
+member_below workers c m (Joined w d from k ∷ h) a is = by (bytes_eq d c) (m.from == from) (m.k == k) refl is (member_below workers c m h a.1)
   where
     by : (n b x : Bool) → (m.from == from) ≡ b → ((n && (b && x)) || is_member c m h) ≡ true → (is_member c m h ≡ true → m.from < workers) → m.from < workers
     by true true true e i rest = let same : m.from ≡ from = grind (arith, nat_tests) in subst (λ (x : ℕ). x < workers) (sym same) a.0.1
     by true true false e i rest = rest i
     by true false x e i rest = rest i
     by false b x e i rest = rest i
-member_below workers c m (Parted w d from k ∷ h) a is = member_below workers c m h a.1 (by (name_eq d c && is_same m from k) is)
+member_below workers c m (Parted w d from k ∷ h) a is = member_below workers c m h a.1 (by (bytes_eq d c && is_same m from k) is)
   where
     by : (n : Bool) → (not n && is_member c m h) ≡ true → is_member c m h ≡ true
     by true i = absurd cc
     by false i = i
-member_below workers c m (Removed w d last cause ∷ h) a is = member_below workers c m h a.1 (by (name_eq d c) is)
+member_below workers c m (Removed w d last cause ∷ h) a is = member_below workers c m h a.1 (by (bytes_eq d c) is)
   where
     by : (n : Bool) → (not n && is_member c m h) ≡ true → is_member c m h ≡ true
     by true i = absurd cc

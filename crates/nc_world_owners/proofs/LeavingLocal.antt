@@ -28,7 +28,7 @@ use Rattle.nc_owner_laws.proofs.Counting.{entries_count}
 use Rattle.nc_owner_laws.proofs.LeavingKept.{others_leave, publish_leaves}
 use Rattle.nc_worker_state.specs.Setup.{Setup}
 use Rattle.nc_world.specs.Reached.{IsSetup}
-use Rattle.nc_world_laws.specs.OwnerTheme.{OwnerFact, MayGo, IsOwnerTheme}
+use Rattle.nc_world_laws.proofs.OwnerTheme.{OwnerFact, MayGo, IsOwnerTheme}
 use Rattle.nc_world_laws.proofs.Local.{all_of}
 use Rattle.nc_world_laws.proofs.Stepping.{is_me, as_me}
 use Rattle.nc_world_owners.specs.Grants.{AreFewGrants}

@@ -7,7 +7,7 @@ use Rattle.nc_types.specs.Channel.{owner_of}
 use Rattle.nc_journal.specs.History.{own, is_by, Along}
 use Rattle.nc_journal.specs.Stamp.{IsStamped, StampedAt, clock_of}
 use Rattle.nc_journal.specs.Message.{Message, buffer}
-use Rattle.nc_journal.specs.Leaving.{IsLeavingRule, Leaves, LeavesBy, LeftAt, FindsAt, NoneExpired, HasMessage, StandsFirst, MakesRoom, MakesWay, GoesNext, GoesToo, is_expired, grants_since, most_grants}
+use Rattle.nc_journal.specs.Leaving.{IsLeavingRule, Leaves, LeavesBy, LeftAt, FindsAt, NoneExpired, HasMessage, StandsFirst, MakesRoom, MakesWay, GoesNext, GoesToo, has_expired, grants_since, most_grants}
 use Rattle.nc_journal.specs.declared.event.Event.{Event}
 use Rattle.nc_journal.specs.declared.event.Event.TheVariants.{Stored, Left, Looked, Edged, Joined, Parted, Removed}
 use Rattle.nc_journal.specs.declared.word.LeftCause.{LeftCause}
@@ -95,8 +95,8 @@ module _ (workers : ℕ) where
 
   lift_cause : (cause : LeftCause) (w : ℕ) (c : List ℕ) (id : Id) (slot : ℕ) (newer older : List Event) → buffer c older ≡ buffer c (own w older) → LeavesBy cause w c id slot (own w newer) (own w older) → LeavesBy cause w c id slot newer older
   lift_cause Expired w c id slot newer older same l =
-      subst (λ (ms : List Message). HasMessage (λ m. is_expired (clock_of (own w older)) m ≡ true) ms id slot) (sym same)
-      (subst (λ (k : List Event). HasMessage (λ m. is_expired (clock_of k) m ≡ true) (buffer c (own w older)) id slot) (own_twice w older) l)
+      subst (λ (ms : List Message). HasMessage (λ m. has_expired (clock_of (own w older)) m ≡ true) ms id slot) (sym same)
+      (subst (λ (k : List Event). HasMessage (λ m. has_expired (clock_of k) m ≡ true) (buffer c (own w older)) id slot) (own_twice w older) l)
   lift_cause Length w c id slot newer older same l = (subst (λ (ms : List Message). StandsFirst ms id slot) (sym same) l.0, lift_room w c newer older same l.1)
   lift_cause Spent w c id slot newer older same l =
       subst (λ (ms : List Message). HasMessage (λ m. grants_since m.slot (own w older) ≡ most_grants) ms id slot) (sym same)
@@ -116,8 +116,8 @@ module _ (workers : ℕ) where
 
   lift_none : (w : ℕ) (c : List ℕ) (h : List Event) → buffer c h ≡ buffer c (own w h) → NoneExpired w c (own w h) → NoneExpired w c h
   lift_none w c h same n =
-      subst (λ (ms : List Message). AllByRecursion (λ m. is_expired (clock_of (own w h)) m ≡ false) ms) (sym same)
-      (subst (λ (k : List Event). AllByRecursion (λ m. is_expired (clock_of k) m ≡ false) (buffer c (own w h))) (own_twice w h) n)
+      subst (λ (ms : List Message). AllByRecursion (λ m. has_expired (clock_of (own w h)) m ≡ false) ms) (sym same)
+      (subst (λ (k : List Event). AllByRecursion (λ m. has_expired (clock_of k) m ≡ false) (buffer c (own w h))) (own_twice w h) n)
 
   lift_found : (e : Event) (h : List Event) → IsByChannelOwner workers e → KeepBuffers (e ∷ h) → ((v : ℕ) → Along FindsAt (own v (e ∷ h))) → FindsAt h e
   lift_found (Looked w q from number c after floor found) h by k f = lift_none w c h (owners_buffer w c h by (older_buffers (Looked w q from number c after floor found ∷ []) h k)) (along_head FindsAt (w == w) (Looked w q from number c after floor found) (own w h) (eqb_self w) (f w))

@@ -20,7 +20,7 @@ use Rattle.nc_owner_laws.proofs.Staging.{new_staged, others_staged, publish_stag
 use Rattle.nc_owner_laws.proofs.SlotKeeping.{others_keep_slots, publish_keeps_slots}
 use Rattle.nc_owner_laws.proofs.Counting.{new_count, steps_keep_count}
 use Rattle.nc_worker_state.specs.Setup.{Setup}
-use Rattle.nc_world_laws.specs.OwnerTheme.{OwnerFact, IsOwnerTheme}
+use Rattle.nc_world_laws.proofs.OwnerTheme.{OwnerFact, IsOwnerTheme}
 use Rattle.nc_world_laws.proofs.Stepping.{is_me, as_me}
 
 -- ---- stages

@@ -17,7 +17,7 @@ use Rattle.nc_spool_state.specs.Spool.{SpoolAt}
 use Rattle.nc_history.specs.Packets.{takes, IsNext}
 use Rattle.nc_worker_state.specs.Deed.{Deed, Does, Makes, told}
 use Rattle.nc_worker_state.specs.Spooled.{Hold, release}
-use Rattle.nc_world_laws.specs.Kinds.{IsBy, IsUntaken}
+use Rattle.nc_world_laws.proofs.WorkerKinds.{IsBy, IsUntaken}
 use Rattle.nc_world_laws.proofs.Local.{differs, all_of, either}
 use Rattle.nc_rests.specs.Asking.{ask_numbers}
 use Rattle.nc_rests.specs.Keeping.{is_signal}

@@ -27,8 +27,8 @@ use Rattle.nc_worker_state.specs.Deed.{next_after}
 use Rattle.nc_world.specs.World.{World, seat, polls_of, handled_events}
 use Rattle.nc_world.specs.Reached.{IsSetup, IsInput}
 use Rattle.nc_world_laws.specs.Good.{Good, IsLineTo}
-use Rattle.nc_world_laws.specs.Kinds.{IsUnmade, AsksOwner}
-use Rattle.nc_world_laws.specs.WorldTheme.{IsWorldTheme}
+use Rattle.nc_world_laws.proofs.WorkerKinds.{IsUnmade, AsksOwner}
+use Rattle.nc_world_laws.proofs.WorldTheme.{IsWorldTheme}
 use Rattle.nc_world_laws.proofs.Local.{all_append, eq_of}
 use Rattle.nc_world_laws.proofs.Frames.{own_step, handled_onto}
 use Rattle.nc_world_laws.proofs.Moving.{taken_right}

@@ -10,7 +10,7 @@ use Rattle.nc_spool_state.specs.Spool.{SpoolAt}
 use Rattle.nc_spool_laws.specs.Keys.{SpoolFits}
 use Rattle.nc_spool_laws.specs.Order.{AreAscending}
 use Rattle.nc_spool_laws.specs.Resting.{AllRest}
-use Rattle.nc_spool_laws.specs.Standing.{IsWhole}
+use Rattle.nc_spool_laws.specs.Attended.{IsWhole}
 use Rattle.nc_spool_laws.proofs.Lists.{all-changed}
 use Rattle.nc_history.specs.Packets.{Packet}
 use Rattle.nc_worker_state.specs.Setup.{Setup}
@@ -20,8 +20,8 @@ use Rattle.nc_world.specs.World.{World, handled_events, handled}
 use Rattle.nc_world.specs.Moves.{Handles, Takes, carried_one, with_ring, taken_events, taken}
 use Rattle.nc_world.specs.Reached.{IsSetup, IsInput, Reached, Moves}
 use Rattle.nc_world_laws.specs.Good.{Good}
-use Rattle.nc_world_laws.specs.Kinds.{IsBy}
-use Rattle.nc_world_laws.specs.WorldTheme.{IsWorldTheme}
+use Rattle.nc_world_laws.proofs.WorkerKinds.{IsBy}
+use Rattle.nc_world_laws.proofs.WorldTheme.{IsWorldTheme}
 use Rattle.nc_world_laws.proofs.Local.{all_of, all_append}
 use Rattle.nc_world_laws.proofs.Acting.{with_all}
 use Rattle.nc_world_laws.proofs.Moving.{taken_right}

@@ -10,7 +10,7 @@ use Rattle.nc_spool_state.specs.Spool.{SpoolAt}
 use Rattle.nc_spool.specs.Calls.{board_of, news_of}
 use Rattle.nc_spool_laws.specs.Order.{AreAscending}
 use Rattle.nc_spool_laws.specs.Resting.{AllRest}
-use Rattle.nc_spool_laws.specs.Standing.{IsWhole}
+use Rattle.nc_spool_laws.specs.Attended.{IsWhole}
 use Rattle.nc_spool_laws.proofs.Local.{whole-kept}
 use Rattle.nc_spool_laws.proofs.Order.{order-kept}
 use Rattle.nc_spool_laws.proofs.Waiting.{all-restful}

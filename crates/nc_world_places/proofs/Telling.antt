@@ -10,7 +10,7 @@ use Rattle.nc_world_laws.proofs.Local.{all_of}
 use Rattle.nc_world_laws.proofs.Moving.{reached_is_good}
 use Rattle.nc_world_owners.specs.ByOwner.{IsByChannelOwner}
 use Rattle.nc_world_owners.proofs.ReachedOwners.{channels_are_owned}
-use Rattle.nc_rests.specs.Standing.{AskIsOfOwner, ShowsForSends}
+use Rattle.nc_rests.specs.ShowsForSends.{AskIsOfOwner, ShowsForSends}
 use Rattle.nc_rests.proofs.OwnerShows.{stands_for_sends}
 use Rattle.nc_rests.proofs.Whole.{owners_keep}
 use Rattle.nc_world_places.specs.Places.{ReachedOwnersTell}

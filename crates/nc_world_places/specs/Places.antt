@@ -7,7 +7,7 @@ use Rattle.nc_owner_laws.specs.InOrder.{AnswersAt}
 use Rattle.nc_spool_state.specs.Spool.{SpoolAt}
 use Rattle.nc_spool_laws.specs.Order.{AreAscending}
 use Rattle.nc_spool_laws.specs.Resting.{AllRest}
-use Rattle.nc_spool_laws.specs.Standing.{IsWhole}
+use Rattle.nc_spool_laws.specs.Attended.{IsWhole}
 use Rattle.nc_worker_state.specs.Setup.{Setup}
 use Rattle.nc_world.specs.World.{World}
 use Rattle.nc_world.specs.Reached.{IsSetup, Reached}
@@ -40,4 +40,5 @@ ReachedHasPlaces = (setup : Setup) (h : List Event) (world : World) → IsSetup 
 
 -- so all is so of each spool that its subscribers rely on
 abbrev pub ReachedSpoolsKnow : Type 0
-ReachedSpoolsKnow = (setup : Setup) (h : List Event) (world : World) → IsSetup setup → Reached setup h world → (w : ℕ) → AllByRecursion (λ s. SpoolKnows setup.workers w s h) (shelf_at world w)
+ReachedSpoolsKnow = (setup : Setup) (h : List Event) (world : World) → IsSetup setup → Reached setup h world → (w : ℕ)
+    → AllByRecursion (λ s. SpoolKnows setup.workers w s h) (shelf_at world w)

@@ -11,8 +11,8 @@ use Rattle.nc_worker_state.specs.Incoming.{TakesPacket}
 use Rattle.nc_world.specs.World.{World, handled_events, pending_in}
 use Rattle.nc_world.specs.Moves.{Counts, counted}
 use Rattle.nc_world.specs.Reached.{IsSetup, Reached, Moves}
-use Rattle.nc_world_laws.specs.Kinds.{IsBy}
-use Rattle.nc_world_laws.specs.WorldTheme.{IsWorldTheme}
+use Rattle.nc_world_laws.proofs.WorkerKinds.{IsBy}
+use Rattle.nc_world_laws.proofs.WorldTheme.{IsWorldTheme}
 use Rattle.nc_world_laws.proofs.Parts.{step_by}
 use Rattle.nc_world_laws.proofs.WorldThemes.{world_theme_holds}
 use Rattle.nc_world_owners.proofs.ReachedHistories.{counts_are_told}

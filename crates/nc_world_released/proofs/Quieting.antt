@@ -14,7 +14,7 @@ use Rattle.nc_world.specs.World.{World, handled_events, pending_in}
 use Rattle.nc_world.specs.Moves.{Counts, counted}
 use Rattle.nc_world.specs.Reached.{IsSetup, Reached, Moves}
 use Rattle.nc_world_laws.specs.Good.{Good}
-use Rattle.nc_world_laws.specs.WorldTheme.{IsWorldTheme}
+use Rattle.nc_world_laws.proofs.WorldTheme.{IsWorldTheme}
 use Rattle.nc_world_laws.proofs.Parts.{before, part, behind, part_all, behind_all}
 use Rattle.nc_world_laws.proofs.Frames.{handled_onto}
 use Rattle.nc_world_laws.proofs.WorldThemes.{world_theme_holds}

@@ -20,7 +20,7 @@ use Rattle.nc_worker_state.specs.Worker.{holding}
 use Rattle.nc_world.specs.World.{World, seat, handled_events, sum_below}
 use Rattle.nc_world.specs.Reached.{IsSetup}
 use Rattle.nc_world_laws.specs.Good.{Good}
-use Rattle.nc_world_laws.specs.Kinds.{IsOfWorker}
+use Rattle.nc_world_laws.proofs.WorkerKinds.{IsOfWorker}
 use Rattle.nc_world_laws.proofs.Local.{eq_of}
 use Rattle.nc_world_laws.proofs.Parts.{owns, serves, before, part, behind, me, of, well, part_all, behind_all}
 use Rattle.nc_world_holds.specs.Balance.{one_if}

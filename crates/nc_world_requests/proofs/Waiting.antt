@@ -17,8 +17,8 @@ use Rattle.nc_world.specs.World.{World, handled_events, pending_in, sum_below}
 use Rattle.nc_world.specs.Moves.{Counts, counted, with_ring}
 use Rattle.nc_world.specs.Reached.{IsSetup, IsInput, Reached, Moves}
 use Rattle.nc_world_laws.specs.Good.{Good}
-use Rattle.nc_world_laws.specs.Kinds.{IsOfWorker}
-use Rattle.nc_world_laws.specs.WorldTheme.{WorldFact, IsWorldTheme}
+use Rattle.nc_world_laws.proofs.WorkerKinds.{IsOfWorker}
+use Rattle.nc_world_laws.proofs.WorldTheme.{WorldFact, IsWorldTheme}
 use Rattle.nc_world_laws.proofs.Local.{eqb_self, eq_of}
 use Rattle.nc_world_laws.proofs.Taking.{first_pending, took_good}
 use Rattle.nc_world_laws.proofs.Parts.{owns, serves, before, part, behind, part_all, behind_all}

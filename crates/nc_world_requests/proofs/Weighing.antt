@@ -29,7 +29,7 @@ use Rattle.nc_history.specs.Packets.{Packet, packet}
 use Rattle.nc_worker_state.specs.Deed.{Deed, Does, Makes, told}
 use Rattle.nc_worker_state.specs.Owned.{Holding, Owned, OwnersPart, at_once, order_of, fenced, owned_by}
 use Rattle.nc_worker_state.specs.Worker.{sent_to, part_woven}
-use Rattle.nc_world_laws.specs.Kinds.{AsksOwner, AreDeeds}
+use Rattle.nc_world_laws.proofs.WorkerKinds.{AsksOwner, AreDeeds}
 use Rattle.nc_world_laws.proofs.Local.{all_of}
 use Rattle.nc_world_laws.proofs.Telling.{PartEvents}
 use Rattle.nc_world_holds.specs.Balance.{one_if}

@@ -31,7 +31,7 @@ use Rattle.nc_worker_state.specs.Spooled.{Hold, found_by, found_in, answers, edg
 use Rattle.nc_world.specs.World.{World, handled_events}
 use Rattle.nc_world.specs.Reached.{IsSetup, IsInput, Reached}
 use Rattle.nc_world_laws.specs.Good.{Good, IsLineTo}
-use Rattle.nc_world_laws.specs.WorldTheme.{IsWorldTheme}
+use Rattle.nc_world_laws.proofs.WorldTheme.{IsWorldTheme}
 use Rattle.nc_world_laws.proofs.Local.{either, eqb_self, own_one}
 use Rattle.nc_world_laws.proofs.Frames.{handled_onto, IsStageless}
 use Rattle.nc_world_laws.proofs.Moving.{taken_right}

@@ -1,13 +1,12 @@
 -- The message that a slot keeps: each message that is buffered is kept in its slot.
 use Rattle.std.proofs.Common.{◌≡◌, ◌⊎◌, inl, inr, ℕ, Bool, true, false, cond, not, List, [], ◌∷◌, ◌++◌, Option, Some, None, refl, sym, ap, ◌∙◌, subst, append_assoc, filter}
-use Rattle.std.specs.Prelude.{◌==◌, ◌&&◌, ◌||◌}
+use Rattle.std.specs.Prelude.{◌==◌, ◌&&◌, ◌||◌, bytes_eq}
 use Rattle.std.specs.List.{AllByRecursion}
 use Rattle.nc_types.specs.Id.{Id, id_eq}
-use Rattle.nc_types.specs.Channel.{name_eq}
 use Rattle.nc_journal.specs.History.{own, Along, AtEachCut}
 use Rattle.nc_journal.specs.Holding.{SlotStage, Unused, Buffered, Retired, stored_stage, slot_stage}
 use Rattle.nc_journal.specs.Leaving.{HasMessage, StandsFirst, LeavesBy, LeftAt}
-use Rattle.nc_journal.specs.Message.{Message, message_of, published, lets_go, is_gone, buffer}
+use Rattle.nc_journal.specs.Message.{Message, stored_message, published, lets_go, is_gone, buffer}
 use Rattle.nc_journal.specs.declared.event.Event.{Event}
 use Rattle.nc_journal.specs.declared.event.Event.TheVariants.{Stored, Left, Freed}
 use Rattle.nc_journal.specs.declared.word.LeftCause.{LeftCause}
@@ -15,7 +14,7 @@ use Rattle.nc_journal.specs.declared.word.LeftCause.TheVariants.{Expired, Length
 use Rattle.nc_owner_laws.specs.SlotRule.{OwnersSlots}
 use Rattle.nc_owner_laws.proofs.Events.{name_self, id_self}
 use Rattle.nc_spool_laws.proofs.Knowledge.{same-name}
-use Rattle.nc_world_laws.specs.Kinds.{IsBy}
+use Rattle.nc_world_laws.proofs.WorkerKinds.{IsBy}
 use Rattle.nc_world_laws.proofs.Local.{eqb_self, eq_of, own_one}
 use Rattle.nc_world_sent_holds.proofs.Granted.{not_second, IsStored}
 
@@ -156,7 +155,7 @@ other_stages a x y = absurd cc
 
 published_kept : (h : List Event) → Along SlotsAt h → (c : List ℕ) (id : Id) (slot : ℕ) → IsAmong (published c h) id slot → is_gone c id h ≡ false → kept_in slot h ≡ Some (named c id)
 published_kept [] a c id slot has gone = absurd has
-published_kept (Stored w d m s len exp kept members from r ct body ∷ h) a c id slot has gone = by (name_eq d c) refl has (published_kept h a.0 c id slot)
+published_kept (Stored w d m s len exp kept members from r ct body ∷ h) a c id slot has gone = by (bytes_eq d c) refl has (published_kept h a.0 c id slot)
   where
     stays : lets_go c id (Stored w d m s len exp kept members from r ct body) ≡ false
     stays = or_first (lets_go c id (Stored w d m s len exp kept members from r ct body)) (is_gone c id h) gone
@@ -168,18 +167,18 @@ published_kept (Stored w d m s len exp kept members from r ct body ∷ h) a c id
         at true i k = absurd (two_stages (slot_stage slot h) (subst (λ (n : ℕ). slot_stage n h ≡ Unused) (eq_of s slot i) a.1) (kept_stage slot h (named c id) k))
         at false i k = k
 
-    new : name_eq d c ≡ true → m ≡ id → s ≡ slot → cond (s == slot) (kept_as kept d m) (kept_in slot h) ≡ Some (named c id)
+    new : bytes_eq d c ≡ true → m ≡ id → s ≡ slot → cond (s == slot) (kept_as kept d m) (kept_in slot h) ≡ Some (named c id)
     new n i j =
         let is : id_eq m id ≡ true = ap (id_eq m) (sym i) ∙ id_self m in
-        let k : kept ≡ true = stays_kept kept (name_eq d c) (id_eq m id) stays n is in
+        let k : kept ≡ true = stays_kept kept (bytes_eq d c) (id_eq m id) stays n is in
         at (s == slot) (ap (λ (z : ℕ). s == z) (sym j) ∙ eqb_self s) k
       where
         at : (b : Bool) → b ≡ true → kept ≡ true → cond b (kept_as kept d m) (kept_in slot h) ≡ Some (named c id)
         at true x k = ap (λ (z : Bool). kept_as z d m) k ∙ (λ z. Some (named (same-name d c n z) (i z)))
         at false x k = absurd cc
 
-    by : (b : Bool) → name_eq d c ≡ b → IsAmong (cond b (published c h ++ message_of m s exp ct body ∷ []) (published c h)) id slot → (IsAmong (published c h) id slot → is_gone c id h ≡ false → kept_in slot h ≡ Some (named c id)) → cond (s == slot) (kept_as kept d m) (kept_in slot h) ≡ Some (named c id)
-    by true n x go = either (among_split (published c h) (message_of m s exp ct body) id slot x)
+    by : (b : Bool) → bytes_eq d c ≡ b → IsAmong (cond b (published c h ++ stored_message m s exp ct body ∷ []) (published c h)) id slot → (IsAmong (published c h) id slot → is_gone c id h ≡ false → kept_in slot h ≡ Some (named c id)) → cond (s == slot) (kept_as kept d m) (kept_in slot h) ≡ Some (named c id)
+    by true n x go = either (among_split (published c h) (stored_message m s exp ct body) id slot x)
       where
         either : IsAmong (published c h) id slot ⊎ ((m ≡ id) × (s ≡ slot)) → cond (s == slot) (kept_as kept d m) (kept_in slot h) ≡ Some (named c id)
         either (inl y) = old go y
@@ -187,12 +186,12 @@ published_kept (Stored w d m s len exp kept members from r ct body ∷ h) a c id
     by false n x go = old go x
 published_kept (Left w d m s cause ∷ h) a c id slot has gone =
     let there = unfiltered (λ (i : Id). is_gone d i h) (published d h) m s a.1 in
-    at (s == slot) refl (published_kept h a.0 d m s there.0 there.1) (published_kept h a.0 c id slot has (or_second (name_eq d c && id_eq m id) (is_gone c id h) gone))
+    at (s == slot) refl (published_kept h a.0 d m s there.0 there.1) (published_kept h a.0 c id slot has (or_second (bytes_eq d c && id_eq m id) (is_gone c id h) gone))
   where
     at : (b : Bool) → (s == slot) ≡ b → kept_in s h ≡ Some (named d m) → kept_in slot h ≡ Some (named c id) → cond b None (kept_in slot h) ≡ Some (named c id)
     at true i leaves k =
         let same = some_channel c d id m (sym leaves ∙ ap (λ (n : ℕ). kept_in n h) (eq_of s slot i) ∙ k) in
-        absurd (both_true (name_eq d c) (id_eq m id) (ap (name_eq d) (sym same.0) ∙ name_self d) (ap (id_eq m) (sym same.1) ∙ id_self m) (or_first (name_eq d c && id_eq m id) (is_gone c id h) gone))
+        absurd (both_true (bytes_eq d c) (id_eq m id) (ap (bytes_eq d) (sym same.0) ∙ name_self d) (ap (id_eq m) (sym same.1) ∙ id_self m) (or_first (bytes_eq d c && id_eq m id) (is_gone c id h) gone))
     at false i leaves k = k
 published_kept (Freed w s ∷ h) a c id slot has gone = at (s == slot) refl (published_kept h a.0 c id slot has gone)
   where

@@ -26,7 +26,7 @@ use Rattle.nc_spool_state.specs.declared.place.Place.TheVariants.{Asked, Nothing
 use Rattle.nc_spool_state.specs.Kept.{is_kept, is_idle}
 use Rattle.nc_spool_state.specs.Key.{name_at, id_at}
 use Rattle.nc_spool_state.specs.Spool.{SpoolAt, no_place, place_at}
-use Rattle.nc_spool_laws.specs.Standing.{PlaceHeld, IsHeld}
+use Rattle.nc_spool_laws.specs.Attended.{PlaceHeld, IsHeld}
 use Rattle.nc_spool_laws.proofs.Lists.{all-changed}
 use Rattle.nc_spool_brought.specs.Brought.{news_of}
 use Rattle.nc_spool_brought.specs.Came.{IsAsked, PlaceCame, SpoolCame, FactCame, BoardCame, KeepsCame}
@@ -41,8 +41,8 @@ use Rattle.nc_worker_state.specs.Worker.{WorkerAt, with_at, dealt_worker}
 use Rattle.nc_world.specs.World.{World, handled_events, handled}
 use Rattle.nc_world.specs.Reached.{IsSetup, IsInput, Reached}
 use Rattle.nc_world_laws.specs.Good.{Good}
-use Rattle.nc_world_laws.specs.Kinds.{IsBy}
-use Rattle.nc_world_laws.specs.WorldTheme.{IsWorldTheme}
+use Rattle.nc_world_laws.proofs.WorkerKinds.{IsBy}
+use Rattle.nc_world_laws.proofs.WorldTheme.{IsWorldTheme}
 use Rattle.nc_world_laws.proofs.Acting.{with_all}
 use Rattle.nc_world_laws.proofs.Frames.{handled_onto}
 use Rattle.nc_world_laws.proofs.Local.{eqb_self, either}

@@ -47,8 +47,8 @@ use Rattle.nc_owner_laws.proofs.Hearing.{IsStill}
 use Rattle.nc_owner_laws.proofs.Owners.{calm_onto}
 use Rattle.nc_owner_laws.proofs.OwnerSteps.{behind, front_stored, calm_found, found_buffer}
 use Rattle.nc_worker_state.specs.Setup.{Setup}
-use Rattle.nc_world_laws.specs.Kinds.{IsBy}
-use Rattle.nc_world_laws.specs.OwnerTheme.{OwnerFact, IsOwnerTheme}
+use Rattle.nc_world_laws.proofs.WorkerKinds.{IsBy}
+use Rattle.nc_world_laws.proofs.OwnerTheme.{OwnerFact, IsOwnerTheme}
 use Rattle.nc_world_laws.proofs.Local.{all_of, all_append, eq_of}
 use Rattle.nc_world_laws.proofs.Telling.{woven_made}
 use Rattle.nc_world_laws.proofs.Stepping.{is_me, as_me}

@@ -9,7 +9,7 @@ use Rattle.nc_journal.specs.declared.event.Event.TheVariants.{Granted, Released,
 use Rattle.nc_journal.specs.declared.alert.AlertLine.{AlertLine}
 use Rattle.nc_journal.specs.declared.alert.AlertLine.TheVariants as lines
 use Rattle.nc_history.specs.Packets.{Packet, packet, pending}
-use Rattle.nc_world_laws.specs.Kinds.{IsBy}
+use Rattle.nc_world_laws.proofs.WorkerKinds.{IsBy}
 use Rattle.nc_world_laws.proofs.Local.{eqb_self, eq_of, all_append, all_of}
 use Rattle.nc_world_holds.specs.Balance.{one_if, granted_to, released_by, carries}
 

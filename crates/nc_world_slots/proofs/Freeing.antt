@@ -46,9 +46,9 @@ use Rattle.nc_worker_state.specs.Owned.{Holding, OwnersPart, order_of, looked_by
 use Rattle.nc_worker_state.specs.Worker.{holding, woven, part_woven}
 use Rattle.nc_world.specs.World.{World, seat, handled_events}
 use Rattle.nc_world.specs.Reached.{IsSetup, Reached}
-use Rattle.nc_world_laws.specs.Kinds.{IsOfWorker}
+use Rattle.nc_world_laws.proofs.WorkerKinds.{IsOfWorker}
 use Rattle.nc_world_laws.specs.Good.{Good}
-use Rattle.nc_world_laws.specs.WorldTheme.{WorldFact, IsWorldTheme}
+use Rattle.nc_world_laws.proofs.WorldTheme.{WorldFact, IsWorldTheme}
 use Rattle.nc_world_laws.proofs.Local.{all_append, all_of}
 use Rattle.nc_world_laws.proofs.Telling.{woven_all}
 use Rattle.nc_world_laws.proofs.Parts.{owns, before, part, behind, behind_all}

@@ -17,8 +17,8 @@ use Rattle.nc_world.specs.World.{World, handled_events}
 use Rattle.nc_world.specs.Moves.{carried_one}
 use Rattle.nc_world.specs.Reached.{IsSetup, IsInput, Reached}
 use Rattle.nc_world_laws.specs.Good.{Good}
-use Rattle.nc_world_laws.specs.Kinds.{IsBy}
-use Rattle.nc_world_laws.specs.WorldTheme.{WorldFact, IsWorldTheme}
+use Rattle.nc_world_laws.proofs.WorkerKinds.{IsBy}
+use Rattle.nc_world_laws.proofs.WorldTheme.{WorldFact, IsWorldTheme}
 use Rattle.nc_world_laws.proofs.Local.{eqb_self, eq_of}
 use Rattle.nc_world_laws.proofs.Telling.{by_worker}
 use Rattle.nc_world_laws.proofs.Taking.{first_pending}

@@ -1,13 +1,12 @@
 -- A slot that is freed is one of its owner's slots.
 use Rattle.std.proofs.Common.{◌≡◌, inl, inr, ℕ, ◌<◌, Bool, true, false, cond, not, List, [], ◌∷◌, ◌++◌, refl, sym, ◌∙◌, subst, append_assoc, filter}
-use Rattle.std.specs.Prelude.{◌==◌}
+use Rattle.std.specs.Prelude.{◌==◌, bytes_eq}
 use Rattle.std.specs.List.{AllByRecursion}
 use Rattle.nc_types.specs.Id.{Id}
-use Rattle.nc_types.specs.Channel.{name_eq}
 use Rattle.nc_journal.specs.History.{own, is_by, Along, AtEachCut}
 use Rattle.nc_journal.specs.Holding.{Unused, Retired, slot_stage, stored_stage}
 use Rattle.nc_journal.specs.Leaving.{HasMessage, StandsFirst, LeavesBy, LeftAt}
-use Rattle.nc_journal.specs.Message.{Message, message_of, published, is_gone, buffer}
+use Rattle.nc_journal.specs.Message.{Message, stored_message, published, is_gone, buffer}
 use Rattle.nc_journal.specs.declared.event.Event.{Event}
 use Rattle.nc_journal.specs.declared.event.Event.TheVariants.{Stored, Left, Freed}
 use Rattle.nc_journal.specs.declared.word.LeftCause.{LeftCause}
@@ -27,10 +26,10 @@ module _ (workers slots : ℕ) where
   -- each message that was stored is in one of the slots
   stored_within : (c : List ℕ) (h : List Event) → Along (OwnersSlots slots) h → AllByRecursion IsWithin (published c h)
   stored_within c [] a = tt
-  stored_within c (Stored w d id slot len exp kept members from r ct body ∷ h) a = by (name_eq d c) (stored_within c h a.0)
+  stored_within c (Stored w d id slot len exp kept members from r ct body ∷ h) a = by (bytes_eq d c) (stored_within c h a.0)
     where
-      by : (b : Bool) → AllByRecursion IsWithin (published c h) → AllByRecursion IsWithin (cond b (published c h ++ message_of id slot exp ct body ∷ []) (published c h))
-      by true k = all_append IsWithin (published c h) (message_of id slot exp ct body ∷ []) k (a.1.within, tt)
+      by : (b : Bool) → AllByRecursion IsWithin (published c h) → AllByRecursion IsWithin (cond b (published c h ++ stored_message id slot exp ct body ∷ []) (published c h))
+      by true k = all_append IsWithin (published c h) (stored_message id slot exp ct body ∷ []) k (a.1.within, tt)
       by false k = k
   stored_within c (e ∷ h) a = stored_within c h a.0
 

@@ -22,9 +22,9 @@ use Rattle.nc_worker_state.specs.Spooled.{found_in, found_by, releases}
 use Rattle.nc_worker_state.specs.Desk.{Desk, Served, unserved, is_waiting, without, replied, handled as answered, begun}
 use Rattle.nc_world.specs.World.{World, handled_events}
 use Rattle.nc_world.specs.Reached.{IsSetup, Comes, IsInput, Reached}
-use Rattle.nc_world_laws.specs.Kinds.{IsOfWorker}
+use Rattle.nc_world_laws.proofs.WorkerKinds.{IsOfWorker}
 use Rattle.nc_world_laws.specs.Good.{IsLineTo, Good}
-use Rattle.nc_world_laws.specs.WorldTheme.{IsWorldTheme}
+use Rattle.nc_world_laws.proofs.WorldTheme.{IsWorldTheme}
 use Rattle.nc_world_laws.proofs.Local.{either, eqb_self, own_one}
 use Rattle.nc_world_laws.proofs.Parts.{before, part, behind, part_all, behind_all}
 use Rattle.nc_world_laws.proofs.Frames.{IsStageless, handled_onto}
@@ -36,7 +36,7 @@ use Rattle.nc_world_ordered.specs.Orderly.{IsOrderly, AllStand, AllStart}
 use Rattle.nc_world_ordered.proofs.Calls.{answer_orderly, notice_orderly, arrival_orderly}
 use Rattle.nc_world_ordered.proofs.Edging.{edge_orderly}
 use Rattle.nc_world_ordered.proofs.Losses.{loss_orderly}
-use Rattle.nc_world_standing.specs.Standing.{HistoriesStand}
+use Rattle.nc_world_standing.specs.HistoriesStand.{HistoriesStand}
 use Rattle.nc_world_standing.proofs.Plain.{plain_orderly, plain_stage, plain_stand, plain_start, subscribed_orderly, told_split, released_plain}
 use Rattle.nc_world_standing.proofs.Opening.{IsUnsubscribed, opens_onto}
 
@@ -61,12 +61,12 @@ unsubscribed_worker w (Subscribed v k conn list mode start timeout close) p = ab
 unsubscribed_worker w e p = tt
 
 -- what comes to a worker is as it counts on
-abbrev Fits : Setup → ℕ → List Event → Incoming → Type 0
-Fits setup w h (TakesPacket from p) = IsLineTo setup.workers from w p.line
-Fits setup w h (Subscribes k list start) = Comes w k list start h
-Fits setup w h incoming = Unit {0}
+abbrev IncomingFits : Setup → ℕ → List Event → Incoming → Type 0
+IncomingFits setup w h (TakesPacket from p) = IsLineTo setup.workers from w p.line
+IncomingFits setup w h (Subscribes k list start) = Comes w k list start h
+IncomingFits setup w h incoming = Unit {0}
 
-input_fits : (setup : Setup) (w : ℕ) (h : List Event) (incoming : Incoming) → IsInput w h incoming → Fits setup w h incoming
+input_fits : (setup : Setup) (w : ℕ) (h : List Event) (incoming : Incoming) → IsInput w h incoming → IncomingFits setup w h incoming
 input_fits setup w h (TakesPacket from p) i = absurd i
 input_fits setup w h (ClockReads t) i = tt
 input_fits setup w h Reaps i = tt
@@ -87,7 +87,7 @@ module _ (setup : Setup) (is : IsSetup setup) (w : ℕ) (h : List Event) (world 
       let stages = reached_has_stages setup h world is reached in
       (stages.staged w n).away (members.known w n new) ∙ ap (λ (b : Bool). cond b Over Absent) new
 
-  opened_orderly : (incoming : Incoming) → Fits setup w h incoming → IsOrderly (onto (before setup w incoming world) h)
+  opened_orderly : (incoming : Incoming) → IncomingFits setup w h incoming → IsOrderly (onto (before setup w incoming world) h)
   opened_orderly (TakesPacket from p) f = plain_orderly (_ ∷ []) h (tt, tt) k.orderly
   opened_orderly (ClockReads t) f = plain_orderly (_ ∷ []) h (tt, tt) k.orderly
   opened_orderly Reaps f = k.orderly
@@ -96,7 +96,7 @@ module _ (setup : Setup) (is : IsSetup setup) (w : ℕ) (h : List Event) (world 
   opened_orderly (Removes c) f = plain_orderly (_ ∷ []) h (tt, tt) k.orderly
   opened_orderly (Informs c) f = plain_orderly (_ ∷ []) h (tt, tt) k.orderly
 
-  opened_opens : (incoming : Incoming) → Fits setup w h incoming → Along SubscribesAt (onto (before setup w incoming world) h)
+  opened_opens : (incoming : Incoming) → IncomingFits setup w h incoming → Along SubscribesAt (onto (before setup w incoming world) h)
   opened_opens (TakesPacket from p) f = (k.opens, tt)
   opened_opens (ClockReads t) f = (k.opens, tt)
   opened_opens Reaps f = k.opens
@@ -114,7 +114,7 @@ module _ (setup : Setup) (is : IsSetup setup) (w : ℕ) (h : List Event) (world 
   abbrev owned : Incoming → List Event
   owned incoming = onto (part w incoming world) (onto (before setup w incoming world) h)
 
-  owned_orderly : (incoming : Incoming) → Fits setup w h incoming → IsOrderly (owned incoming)
+  owned_orderly : (incoming : Incoming) → IncomingFits setup w h incoming → IsOrderly (owned incoming)
   owned_orderly incoming f = plain_orderly (part w incoming world) (onto (before setup w incoming world) h) (part_plain incoming) (opened_orderly incoming f)
 
   taken_stand : (from : ℕ) (p : Packet) → AllStand w (owned (TakesPacket from p)) d.spools
@@ -158,7 +158,7 @@ module _ (setup : Setup) (is : IsSetup setup) (w : ℕ) (h : List Event) (world 
   packet_orderly next l from (lines.Delete r c) f stand start o = o
   packet_orderly next l from (lines.Info r c) f stand start o = o
 
-  begun_orderly : (next : ℕ → ℕ) (incoming : Incoming) → Fits setup w h incoming → IsOrderly (onto (told w next (begun setup w incoming d).deeds) (owned incoming))
+  begun_orderly : (next : ℕ → ℕ) (incoming : Incoming) → IncomingFits setup w h incoming → IsOrderly (onto (told w next (begun setup w incoming d).deeds) (owned incoming))
   begun_orderly next (TakesPacket from p) f = packet_orderly next (owned (TakesPacket from p)) from p.line f (taken_stand from p) (taken_start from p) (owned_orderly (TakesPacket from p) f)
   begun_orderly next (ClockReads t) f = owned_orderly (ClockReads t) f
   begun_orderly next Reaps f = owned_orderly Reaps f
@@ -168,7 +168,7 @@ module _ (setup : Setup) (is : IsSetup setup) (w : ℕ) (h : List Event) (world 
   begun_orderly next (Informs c) f = plain_orderly (_ ∷ []) (owned (Informs c)) (tt, tt) (owned_orderly (Informs c) f)
 
   -- the releases stand at the end
-  served_orderly : (incoming : Incoming) → Fits setup w h incoming → IsOrderly (onto (behind setup w incoming world) (owned incoming))
+  served_orderly : (incoming : Incoming) → IncomingFits setup w h incoming → IsOrderly (onto (behind setup w incoming world) (owned incoming))
   served_orderly incoming f =
       let b = begun setup w incoming d in
       let next = next_after (world.workers w).next (part w incoming world) in
@@ -179,7 +179,7 @@ module _ (setup : Setup) (is : IsSetup setup) (w : ℕ) (h : List Event) (world 
 
   -- ---- the whole step
 
-  step_stands : (incoming : Incoming) → Fits setup w h incoming → Stands (onto (handled_events setup w incoming world) h)
+  step_stands : (incoming : Incoming) → IncomingFits setup w h incoming → Stands (onto (handled_events setup w incoming world) h)
   step_stands incoming f = record {
     orderly = subst IsOrderly (sym (handled_onto setup is w incoming h world g h)) (served_orderly incoming f);
     opens = subst (Along SubscribesAt) (sym (handled_onto setup is w incoming h world g h))

@@ -72,8 +72,8 @@ module _ (me : ℕ) (cause : EndedCause) (next : ℕ → ℕ) (h : List Event) w
       (away_stands x.k xs ys (record { facts = a.facts; are = a.are; all = weaker IsOut (IsAway x.k) (out_away x.k) a.facts a.all }) ∙ stand.0, outs_still xs ys key rs a stand.1)
 
   -- a spool while messages are sent to some others: its subscribers stand at its key, and none of the others is there
-  abbrev pub Fits : List (Fact) → List Reader → SpoolAt → Type 0
-  Fits fs rs s = StandHere me s (written me cause next fs h) × AllByRecursion (λ (r : Reader). IsNotIn r.k s) rs
+  abbrev pub StandsApart : List (Fact) → List Reader → SpoolAt → Type 0
+  StandsApart fs rs s = StandHere me s (written me cause next fs h) × AllByRecursion (λ (r : Reader). IsNotIn r.k s) rs
 
   -- who is sent a message and isn't ended stands at the moved key
   moved_stands : (s : SpoolAt) (find : Find) (b : Board) (r : Reader) → r.once ≡ false → StandsAtKey me s.key (written me cause next b.facts h) r → StandsAtKey me (delivery find s).key (written me cause next (entered (delivery find s).key r (tells (facts.Sent (sending (delivery find s) r)) b)).facts h) r
@@ -101,8 +101,8 @@ module _ (me : ℕ) (cause : EndedCause) (next : ℕ → ℕ) (h : List Event) w
   none_there n key (x ∷ rs) = (tt, none_there n key rs)
 
   module _ (s : SpoolAt) (find : Find) where
-    sent_one_fits : (b : Board) (r : Reader) (rs : List Reader) → AllByRecursion (IsOther r.k) rs → StandsAtKey me s.key (written me cause next b.facts h) r → AllByRecursion (Fits b.facts (r ∷ rs)) b.shelf
-        → AllByRecursion (Fits (sent_one (delivery find s) b r).facts rs) (sent_one (delivery find s) b r).shelf
+    sent_one_fits : (b : Board) (r : Reader) (rs : List Reader) → AllByRecursion (IsOther r.k) rs → StandsAtKey me s.key (written me cause next b.facts h) r → AllByRecursion (StandsApart b.facts (r ∷ rs)) b.shelf
+        → AllByRecursion (StandsApart (sent_one (delivery find s) b r).facts rs) (sent_one (delivery find s) b r).shelf
     sent_one_fits b r rs other stands fits = by r.once refl
       where
         d : Delivery
@@ -112,52 +112,52 @@ module _ (me : ℕ) (cause : EndedCause) (next : ℕ → ℕ) (h : List Event) w
         b1 = tells (facts.Sent (sending (delivery find s) r)) b
 
         -- those on the shelf
-        on : AllByRecursion (Fits (sent_one (delivery find s) b r).facts rs) b.shelf
-        on = all-changed (Fits b.facts (r ∷ rs)) (Fits (sent_one (delivery find s) b r).facts rs) b.shelf (λ x f. (still (delivery find s) x.key b r x.readers f.1.0 f.0, f.1.1)) fits
+        on : AllByRecursion (StandsApart (sent_one (delivery find s) b r).facts rs) b.shelf
+        on = all-changed (StandsApart b.facts (r ∷ rs)) (StandsApart (sent_one (delivery find s) b r).facts rs) b.shelf (λ x f. (still (delivery find s) x.key b r x.readers f.1.0 f.0, f.1.1)) fits
 
-        by : (t : Bool) → r.once ≡ t → AllByRecursion (Fits (sent_one (delivery find s) b r).facts rs) (cond t (ended r.k false (delivery find s).key.list (tells (facts.Sent (sending (delivery find s) r)) b)) (entered (delivery find s).key r (tells (facts.Sent (sending (delivery find s) r)) b))).shelf
-        by true once = subst (AllByRecursion (Fits (sent_one (delivery find s) b r).facts rs)) (sym (parted-shelf r.k (delivery find s).key.list (tells (facts.Ended r.k false) (tells (facts.Sent (sending (delivery find s) r)) b)))) on
+        by : (t : Bool) → r.once ≡ t → AllByRecursion (StandsApart (sent_one (delivery find s) b r).facts rs) (cond t (ended r.k false (delivery find s).key.list (tells (facts.Sent (sending (delivery find s) r)) b)) (entered (delivery find s).key r (tells (facts.Sent (sending (delivery find s) r)) b))).shelf
+        by true once = subst (AllByRecursion (StandsApart (sent_one (delivery find s) b r).facts rs)) (sym (parted-shelf r.k (delivery find s).key.list (tells (facts.Ended r.k false) (tells (facts.Sent (sending (delivery find s) r)) b)))) on
         by false once = enters (spool_of (delivery find s).key b.shelf) refl
           where
             there : StandsAtKey me (delivery find s).key (written me cause next (sent_one (delivery find s) b r).facts h) r
             there = subst (λ (o : Bool). StandsAtKey me (delivery find s).key (written me cause next (cond o (ended r.k false (delivery find s).key.list (tells (facts.Sent (sending (delivery find s) r)) b)) (entered (delivery find s).key r (tells (facts.Sent (sending (delivery find s) r)) b))).facts h) r)
                 (sym once) (moved_stands s find b r once stands)
 
-            enters : (o : Option SpoolAt) → spool_of (delivery find s).key b.shelf ≡ o → AllByRecursion (Fits (sent_one (delivery find s) b r).facts rs)
+            enters : (o : Option SpoolAt) → spool_of (delivery find s).key b.shelf ≡ o → AllByRecursion (StandsApart (sent_one (delivery find s) b r).facts rs)
                 (shelved (with_reader r (standing o (delivery find s).key (tells (facts.Sent (sending (delivery find s) r)) b))) (opened o (delivery find s).key (record (tells (facts.Sent (sending (delivery find s) r)) b) { shelf = others (delivery find s).key b.shelf }))).shelf
-            enters None was = all-insert (Fits (sent_one (delivery find s) b r).facts rs) _ (place_before (delivery find s).key _) (with_reader r (fresh_spool b.next (delivery find s).key))
+            enters None was = all-insert (StandsApart (sent_one (delivery find s) b r).facts rs) _ (place_before (delivery find s).key _) (with_reader r (fresh_spool b.next (delivery find s).key))
                 ((there, tt), with_one r (fresh_spool b.next (delivery find s).key) rs other (none_there b.next (delivery find s).key rs))
-                (subst (AllByRecursion (Fits (sent_one (delivery find s) b r).facts rs)) (sym (asked-shelf (delivery find s).key 0 (delivery find s).key.list (record (tells (facts.Sent (sending (delivery find s) r)) b) { shelf = others (delivery find s).key b.shelf })))
-                (all-without (Fits (sent_one (delivery find s) b r).facts rs) (is_of (delivery find s).key) b.shelf on))
+                (subst (AllByRecursion (StandsApart (sent_one (delivery find s) b r).facts rs)) (sym (asked-shelf (delivery find s).key 0 (delivery find s).key.list (record (tells (facts.Sent (sending (delivery find s) r)) b) { shelf = others (delivery find s).key b.shelf })))
+                (all-without (StandsApart (sent_one (delivery find s) b r).facts rs) (is_of (delivery find s).key) b.shelf on))
             enters (Some x) was =
-                let fit = all-found (Fits (sent_one (delivery find s) b r).facts rs) (is_of (delivery find s).key) b.shelf x was on in
+                let fit = all-found (StandsApart (sent_one (delivery find s) b r).facts rs) (is_of (delivery find s).key) b.shelf x was on in
                 let same : (delivery find s).key ≡ x.key = key_same (delivery find s).key x.key (found-passes (is_of (delivery find s).key) b.shelf x was) in
-                all-insert (Fits (sent_one (delivery find s) b r).facts rs) (others (delivery find s).key b.shelf) (place_before x.key (others (delivery find s).key b.shelf)) (with_reader r x) (
+                all-insert (StandsApart (sent_one (delivery find s) b r).facts rs) (others (delivery find s).key b.shelf) (place_before x.key (others (delivery find s).key b.shelf)) (with_reader r x) (
                   all-insert (StandsAtKey me x.key (written me cause next (sent_one (delivery find s) b r).facts h)) x.readers (place_above r.k x.readers) r
                       (subst (λ (key : KeyAt). StandsAtKey me key (written me cause next (sent_one (delivery find s) b r).facts h) r) same there) fit.0,
                   with_one r x rs other fit.1,
                 )
-                (all-without (Fits (sent_one (delivery find s) b r).facts rs) (is_of (delivery find s).key) b.shelf on)
+                (all-without (StandsApart (sent_one (delivery find s) b r).facts rs) (is_of (delivery find s).key) b.shelf on)
 
-    sent_fits : (rs : List Reader) (b : Board) → AreOnce rs → AllByRecursion (StandsAtKey me s.key (written me cause next b.facts h)) rs → AllByRecursion (Fits b.facts rs) b.shelf
-        → let c = fold (sent_one (delivery find s)) b rs in AllByRecursion (Fits c.facts []) c.shelf
+    sent_fits : (rs : List Reader) (b : Board) → AreOnce rs → AllByRecursion (StandsAtKey me s.key (written me cause next b.facts h)) rs → AllByRecursion (StandsApart b.facts rs) b.shelf
+        → let c = fold (sent_one (delivery find s)) b rs in AllByRecursion (StandsApart c.facts []) c.shelf
     sent_fits [] b once stand fits = fits
     sent_fits (r ∷ rs) b once stand fits =
         sent_fits rs (sent_one (delivery find s) b r) once.1 (still (delivery find s) s.key b r rs once.0 stand.1) (sent_one_fits b r rs once.0 stand.0 fits)
 
-  pub decided_fits : (s : SpoolAt) (b : Board) → AreOnce s.readers → StandHere me s (written me cause next b.facts h) → AllByRecursion (Fits b.facts s.readers) b.shelf → AllByRecursion (Fits (decided s b).facts []) (decided s b).shelf
+  pub decided_fits : (s : SpoolAt) (b : Board) → AreOnce s.readers → StandHere me s (written me cause next b.facts h) → AllByRecursion (StandsApart b.facts s.readers) b.shelf → AllByRecursion (StandsApart (decided s b).facts []) (decided s b).shelf
   decided_fits s b once stand fits = by (choice s.places)
     where
-      bare : AllByRecursion (Fits b.facts []) b.shelf
-      bare = all-changed (Fits b.facts s.readers) (Fits b.facts []) b.shelf (λ x f. (f.0, tt)) fits
+      bare : AllByRecursion (StandsApart b.facts []) b.shelf
+      bare = all-changed (StandsApart b.facts s.readers) (StandsApart b.facts []) b.shelf (λ x f. (f.0, tt)) fits
 
-      by : (o : Choice) → AllByRecursion (Fits (decided_by o s b).facts []) (decided_by o s b).shelf
-      by Wait = all-insert (Fits b.facts []) b.shelf (place_before s.key b.shelf) s (stand, tt) bare
+      by : (o : Choice) → AllByRecursion (StandsApart (decided_by o s b).facts []) (decided_by o s b).shelf
+      by Wait = all-insert (StandsApart b.facts []) b.shelf (place_before s.key b.shelf) s (stand, tt) bare
       by (Fence time) =
           let c = fence_looks time s.key 0 s.places b in let outs = fences_outs time s.key 0 s.places b in
-          all-insert (Fits c.facts []) c.shelf (place_before s.key c.shelf) (record s { places = fenced_places time s.key 0 s.places b }) (outs_still b.facts c.facts s.key s.readers outs stand, tt)
-          (subst (AllByRecursion (Fits c.facts [])) (sym (fences-shelf time s.key 0 s.places b))
-          (all-changed (Fits b.facts []) (Fits c.facts []) b.shelf (λ x f. (outs_still b.facts c.facts x.key x.readers outs f.0, tt)) bare))
+          all-insert (StandsApart c.facts []) c.shelf (place_before s.key c.shelf) (record s { places = fenced_places time s.key 0 s.places b }) (outs_still b.facts c.facts s.key s.readers outs stand, tt)
+          (subst (AllByRecursion (StandsApart c.facts [])) (sym (fences-shelf time s.key 0 s.places b))
+          (all-changed (StandsApart b.facts []) (StandsApart c.facts []) b.shelf (λ x f. (outs_still b.facts c.facts x.key x.readers outs f.0, tt)) bare))
       by (Send find) = sent_fits s find s.readers b once stand fits
 
 -- ---- each subscriber stands once
@@ -206,6 +206,6 @@ all_both P Q (x ∷ xs) p q = ((p.0, q.0), all_both P Q xs p.1 q.1)
 
 pub decides_stand : DecidesStand
 decides_stand me cause next h s b once stand shelf apart =
-    all-changed (Fits me cause next h (decided s b).facts []) (λ (x : SpoolAt). StandHere me x (written me cause next (decided s b).facts h)) (decided s b).shelf (λ x f. f.0)
+    all-changed (StandsApart me cause next h (decided s b).facts []) (λ (x : SpoolAt). StandHere me x (written me cause next (decided s b).facts h)) (decided s b).shelf (λ x f. f.0)
     (decided_fits me cause next h s b once stand
     (all_both (λ (y : SpoolAt). StandHere me y (written me cause next b.facts h)) (λ (y : SpoolAt). AllByRecursion (λ (r : Reader). IsNotIn r.k y) s.readers) b.shelf shelf apart))

@@ -18,7 +18,7 @@ use Rattle.nc_spool_state.specs.declared.place.Place.{Place}
 use Rattle.nc_spool_state.specs.Spool.{SpoolAt, place_at}
 use Rattle.nc_worker_state.specs.Spooled.{facts_deeds}
 use Rattle.nc_worker_state.specs.Deed.{told}
-use Rattle.nc_world_laws.specs.Kinds.{IsBy}
+use Rattle.nc_world_laws.proofs.WorkerKinds.{IsBy}
 use Rattle.nc_rests.proofs.Received.{eqb_self}
 use Rattle.nc_history.specs.Packets.{takes}
 use Rattle.nc_rests.specs.Owners.{Owners}

@@ -18,7 +18,8 @@ use Rattle.nc_world_told.specs.Known.{SpoolKnows}
 
 -- facts are written as their deeds are told
 abbrev pub WrittenIsTold : Type 0
-WrittenIsTold = (me : ℕ) (cause : EndedCause) (next : ℕ → ℕ) (fs : List Fact) (h : List Event) → written me cause next fs h ≡ onto (told me next (facts_deeds me cause fs)) h
+WrittenIsTold = (me : ℕ) (cause : EndedCause) (next : ℕ → ℕ) (fs : List Fact) (h : List Event)
+    → written me cause next fs h ≡ onto (told me next (facts_deeds me cause fs)) h
 
 -- facts behind others are written on what these wrote
 abbrev pub WrittenAppends : Type 0
@@ -27,11 +28,14 @@ WrittenAppends = (me : ℕ) (cause : EndedCause) (next : ℕ → ℕ) (xs ys : L
 
 -- what a spool that knows, and whose subscribers stand at its key, sends by its places is lawful
 abbrev pub DecidesWell : Type 0
-DecidesWell = (workers me : ℕ) (cause : EndedCause) (next : ℕ → ℕ) (h : List Event) (s : SpoolAt) (b : Board) → Owners workers h → SpoolKnows workers me s h → AreOnce s.readers → StandHere me s (so_far me cause next h b)
+DecidesWell = (workers me : ℕ) (cause : EndedCause) (next : ℕ → ℕ) (h : List Event) (s : SpoolAt) (b : Board) → Owners workers h
+    → SpoolKnows workers me s h → AreOnce s.readers → StandHere me s (so_far me cause next h b)
     → Along (IsGoodSend workers) (so_far me cause next h b) → Along (IsGoodSend workers) (so_far me cause next h (decided s b))
 
 -- and after it each subscriber of each spool stands at its key
 abbrev pub DecidesStand : Type 0
-DecidesStand = (me : ℕ) (cause : EndedCause) (next : ℕ → ℕ) (h : List Event) (s : SpoolAt) (b : Board) → AreOnce s.readers → StandHere me s (so_far me cause next h b)
-    → AllByRecursion (λ x. StandHere me x (so_far me cause next h b)) b.shelf → AllByRecursion (λ x. AllByRecursion (λ r. IsNotIn r.k x) s.readers) b.shelf
+DecidesStand = (me : ℕ) (cause : EndedCause) (next : ℕ → ℕ) (h : List Event) (s : SpoolAt) (b : Board) → AreOnce s.readers
+    → StandHere me s (so_far me cause next h b)
+    → AllByRecursion (λ x. StandHere me x (so_far me cause next h b)) b.shelf
+    → AllByRecursion (λ x. AllByRecursion (λ r. IsNotIn r.k x) s.readers) b.shelf
     → AllByRecursion (λ x. StandHere me x (so_far me cause next h (decided s b))) (decided s b).shelf

@@ -20,7 +20,7 @@ use Rattle.nc_worker_state.specs.Spooled.{Hold, is_busy, without_idles}
 use Rattle.nc_worker_state.specs.Desk.{begun}
 use Rattle.nc_worker_state.specs.Worker.{with_at, dealt_worker}
 use Rattle.nc_world.specs.World.{World, handled_events}
-use Rattle.nc_world_laws.specs.WorldTheme.{WorldFact, IsWorldTheme}
+use Rattle.nc_world_laws.proofs.WorldTheme.{WorldFact, IsWorldTheme}
 use Rattle.nc_world_laws.proofs.Parts.{owns, serves}
 use Rattle.nc_world_laws.proofs.WorldThemes.{world_theme_holds}
 use Rattle.nc_world_holds.specs.Balance.{granted_to, released_by, carried_by, kept_by}

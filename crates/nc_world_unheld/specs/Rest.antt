@@ -12,7 +12,8 @@ use Rattle.nc_world.specs.Reached.{IsSetup, Reached}
 
 -- each hold that a worker keeps between two steps is of a message that was found at a place
 abbrev pub KeptAreUsed : Type 0
-KeptAreUsed = (setup : Setup) (h : List Event) (world : World) → IsSetup setup → Reached setup h world → (w : ℕ) → AllUsed (world.workers w).desk.spools
+KeptAreUsed = (setup : Setup) (h : List Event) (world : World) → IsSetup setup → Reached setup h world → (w : ℕ)
+    → AllUsed (world.workers w).desk.spools
 
 -- no packet is pending, and no place of a worker's spools awaits a look
 pub record IsAtRest (h : List Event) (world : World) : Type 0 where

@@ -20,7 +20,8 @@ ToldIsHandled = (setup : Setup) (w : ℕ) (incoming : Incoming) (world : World) 
 
 -- lists of numbers and packets: one value changed
 abbrev pub WriteShows : Type 0
-WriteShows = (n : ℕ) (f g new : ℕ → List ℕ) (w : ℕ) → w < n → ((o : ℕ) → o ≢ w → g o ≡ f o) → seen_below n g new ≡ with_at (seen_below n f new) w (g w)
+WriteShows = (n : ℕ) (f g new : ℕ → List ℕ) (w : ℕ) → w < n → ((o : ℕ) → o ≢ w → g o ≡ f o)
+    → seen_below n g new ≡ with_at (seen_below n f new) w (g w)
 
 -- beyond the workers each slot of so many has no hold
 abbrev pub GivenBackShows : Type 0

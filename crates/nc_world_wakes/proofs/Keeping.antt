@@ -16,7 +16,7 @@ use Rattle.nc_spool_state.specs.Kept.{place_uses, spool_uses, is_used, is_grant,
 use Rattle.nc_spool_state.specs.Spool.{SpoolAt}
 use Rattle.nc_spool.specs.declared.spools.Found.{Found as FoundWith}
 use Rattle.nc_spool.specs.Calls.{SpoolsAt, board_of, news_of, with_found}
-use Rattle.nc_spool_laws.specs.Standing.{PlaceHeld, IsHeld, AnswerHeld}
+use Rattle.nc_spool_laws.specs.Attended.{PlaceHeld, IsHeld, AnswerHeld}
 use Rattle.nc_spool_laws.proofs.Holds.{holds-rule}
 use Rattle.nc_spool_laws.proofs.Local.{held-kept}
 use Rattle.nc_worker_state.specs.Setup.{Setup}
@@ -25,7 +25,7 @@ use Rattle.nc_worker_state.specs.Desk.{Desk, Served, replied, is_waiting, handle
 use Rattle.nc_worker_state.specs.Spooled.{Hold, found_by, found_in, is_busy, without_idles}
 use Rattle.nc_worker_state.specs.Worker.{WorkerAt, with_at, dealt_worker}
 use Rattle.nc_world.specs.World.{World, handled_events, handled}
-use Rattle.nc_world_laws.specs.WorldTheme.{IsWorldTheme}
+use Rattle.nc_world_laws.proofs.WorldTheme.{IsWorldTheme}
 use Rattle.nc_world_laws.proofs.Local.{either}
 use Rattle.nc_world_laws.proofs.Acting.{with_all}
 use Rattle.nc_world_laws.proofs.Parts.{owns, serves}

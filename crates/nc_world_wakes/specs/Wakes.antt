@@ -50,4 +50,5 @@ SpoolIsAwake workers w h s = (j : ℕ) → j < length s.places → PlaceIsAwake 
 
 -- in each reached world no wake is lost
 abbrev pub NoWakeIsLost : Type 0
-NoWakeIsLost = (setup : Setup) (h : List Event) (world : World) → IsSetup setup → Reached setup h world → (w : ℕ) → AllByRecursion (SpoolIsAwake setup.workers w h) (shelf_at world w)
+NoWakeIsLost = (setup : Setup) (h : List Event) (world : World) → IsSetup setup → Reached setup h world → (w : ℕ)
+    → AllByRecursion (SpoolIsAwake setup.workers w h) (shelf_at world w)

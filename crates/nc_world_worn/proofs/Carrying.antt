@@ -19,8 +19,8 @@ use Rattle.nc_world.specs.World.{World, seat, polls_of, handled_events, handled}
 use Rattle.nc_world.specs.Moves.{carried_one}
 use Rattle.nc_world.specs.Reached.{IsSetup, Reached}
 use Rattle.nc_world_laws.specs.Good.{Good}
-use Rattle.nc_world_laws.specs.Kinds.{IsUnmade, IsOfWorker}
-use Rattle.nc_world_laws.specs.WorldTheme.{WorldFact, IsWorldTheme}
+use Rattle.nc_world_laws.proofs.WorkerKinds.{IsUnmade, IsOfWorker}
+use Rattle.nc_world_laws.proofs.WorldTheme.{WorldFact, IsWorldTheme}
 use Rattle.nc_world_laws.proofs.Local.{all_of, own_onto, own_other}
 use Rattle.nc_world_laws.proofs.Acting.{with_all}
 use Rattle.nc_world_laws.proofs.Frames.{handled_onto}

@@ -17,9 +17,10 @@ use Rattle.nc_spool.specs.declared.fact.Fact.TheVariants.{Out, Started, Sent, En
 use Rattle.nc_spool.specs.Board.{told, looked, asked_from}
 use Rattle.nc_spool.specs.Decide.{fence_look, fence_looks}
 use Rattle.nc_spool.specs.Newest.{asked_edge, edges_from, edge_behind, edges_behind}
-use Rattle.nc_spool_laws.specs.Closed.{IsClosed, IsKept}
+use Rattle.nc_spool_laws.specs.Closed.{IsKept}
+use Rattle.nc_spool_laws.proofs.Closing.{IsClosed}
 use Rattle.nc_spool_laws.specs.Numbers.{total}
-use Rattle.nc_spool_laws.specs.Standing.{AnyNews, AnyAnswer, AnyLast, AnyKey, AnyFind}
+use Rattle.nc_spool_laws.specs.Attended.{AnyNews, AnyAnswer, AnyLast, AnyKey, AnyFind}
 use Rattle.nc_spool_laws.proofs.Totals.{total-push}
 use Rattle.nc_spool_laws.proofs.Walk.{all-kept}
 

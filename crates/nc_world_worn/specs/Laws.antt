@@ -21,7 +21,8 @@ counter_of (PacketsTo to) s = s.next to
 
 -- each counter of a worker stands so far behind the first number as the journal shows
 abbrev pub CountersAreTold : Type 0
-CountersAreTold = (setup : Setup) (h : List Event) (world : World) → IsSetup setup → Reached setup h world → (w : ℕ) (counter : Counter) → counter_of counter (world.workers w) ≡ setup.first + shown counter w h
+CountersAreTold = (setup : Setup) (h : List Event) (world : World) → IsSetup setup → Reached setup h world → (w : ℕ) (counter : Counter)
+    → counter_of counter (world.workers w) ≡ setup.first + shown counter w h
 
 -- a worker is worn exactly where the journal shows it
 abbrev pub WornIsShown : Type 0
@@ -37,4 +38,5 @@ pub record MeetsWorn (setup : Setup) (m : ℕ) (lines : List Line) : Type 0 wher
 
 -- it is so where as many moves of the next line come before a worn worker
 abbrev pub WornIsTold : Type 0
-WornIsTold = (setup : Setup) (line : Line) (lines : List Line) (m : ℕ) → IsSetup setup → AreFit setup (line ∷ lines) → before_worn_in setup line (lines_world setup lines) ≡ Some m → MeetsWorn setup m lines
+WornIsTold = (setup : Setup) (line : Line) (lines : List Line) (m : ℕ) → IsSetup setup → AreFit setup (line ∷ lines)
+    → before_worn_in setup line (lines_world setup lines) ≡ Some m → MeetsWorn setup m lines

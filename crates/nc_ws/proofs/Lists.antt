@@ -7,7 +7,7 @@ use Rattle.nc_ws.specs.declared.told.Told.TheVariants.{Data, Control, Close, Emp
 use Rattle.nc_ws.specs.declared.framer.FrameIn.{FrameIn}
 use Rattle.nc_ws.specs.declared.framer.FrameIn.TheVariants as Item
 use Rattle.nc_ws.specs.Items.{is_closed, ClosedIsLast, reply_of, written}
-use Rattle.nc_ws.specs.Reads.{Turn, Stopped, Closes, Ended, message_of, items_at, items_of}
+use Rattle.nc_ws.specs.Reads.{Turn, Stopped, Closes, Ended, message_items, items_at, items_of}
 
 -- no item of a list is Closed
 IsOpen : List FrameIn → Type 0
@@ -24,7 +24,7 @@ unfolding IsOpen
 open_reply [] = tt
 open_reply (b ∷ bs) = (refl, tt)
 
-open_message : (told : Told) → IsOpen (message_of told)
+open_message : (told : Told) → IsOpen (message_items told)
 unfolding IsOpen
 open_message Data = (refl, tt)
 open_message Control = tt
@@ -34,7 +34,7 @@ open_message NoMemory = tt
 open_message Failed = tt
 
 open_items_at : (s t : Socket Pipe) (told : Told) → IsOpen (items_at s t told)
-open_items_at s t told = open_append (written s.stream.out.items t.stream.out.items) (message_of told) (open_reply (drop (length s.stream.out.items) t.stream.out.items)) (open_message told)
+open_items_at s t told = open_append (written s.stream.out.items t.stream.out.items) (message_items told) (open_reply (drop (length s.stream.out.items) t.stream.out.items)) (open_message told)
 
 open_items : (s : Socket Pipe) (turns : List Turn) → IsOpen (items_of s turns)
 unfolding IsOpen

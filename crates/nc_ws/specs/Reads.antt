@@ -24,13 +24,13 @@ abbrev pub Reading : Socket Pipe → Socket Pipe → Told → Type 0
 Reading s t told = (r : Result Message Error) × Reads left s t r × (told ≡ told_of r)
 
 -- the list has a message for a read that gave one
-abbrev pub message_of : Told → List FrameIn
-message_of Data = Item.Message ∷ []
-message_of told = []
+abbrev pub message_items : Told → List FrameIn
+message_items Data = Item.Message ∷ []
+message_items told = []
 
 -- what the socket wrote in a read, as a reply, and then the read's message
 abbrev pub items_at : Socket Pipe → Socket Pipe → Told → List FrameIn
-items_at s t told = written s.stream.out.items t.stream.out.items ++ message_of told
+items_at s t told = written s.stream.out.items t.stream.out.items ++ message_items told
 
 -- a read is the last: it found the pipe empty, or gave a close or a fault
 abbrev pub is_last : Told → List ℕ → Bool

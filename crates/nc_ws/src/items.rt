@@ -1,7 +1,7 @@
 //! Lists of what reads gave.
 ghost use Rattle.std.specs.Prelude.{◌≡◌, ◌++◌, OnOk, drop};
 ghost use Rattle.nc_ws.specs.Items.{is_closed, ends_closed, reply_of};
-ghost use Rattle.nc_ws.specs.Reads.{message_of};
+ghost use Rattle.nc_ws.specs.Reads.{message_items};
 
 use crate::framer::FrameIn;
 use crate::told::Told;
@@ -26,7 +26,7 @@ pub fn push_reply(
 
 /// Puts a message behind a list where a read gave one.
 pub fn push_message(list: &mut Vec<FrameIn>, told: Told) -> Result<(), NoMemory>
-    ensures { OnOk result (list.new.items ≡ list.old.items ++ message_of told) }
+    ensures { OnOk result (list.new.items ≡ list.old.items ++ message_items told) }
 {
     if let Told::Data = told {
         list.push(FrameIn::Message)?;

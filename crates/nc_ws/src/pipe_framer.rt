@@ -75,7 +75,8 @@ impl PipeFramer {
     fn answer_close(&mut self, list: &mut Vec<FrameIn>) -> Result<(), NoMemory>
         ensures flushed { OnOk result (Flushed shown self.old.socket self.new.socket) }
         ensures answered { OnOk result (self.new.socket.output ≡ []) }
-        ensures gave { OnOk result (list.new.items ≡ list.old.items ++ written self.old.socket.stream.out.items self.new.socket.stream.out.items ++ ClosedItem ∷ []) }
+        ensures gave { OnOk result (list.new.items
+            ≡ list.old.items ++ written self.old.socket.stream.out.items self.new.socket.stream.out.items ++ ClosedItem ∷ []) }
         ensures faults { self.new.faults ≡ self.old.faults }
         ensures calls { self.new.calls ≡ self.old.calls }
         ensures closes { self.new.closes ≡ self.old.closes }

@@ -2,7 +2,7 @@ use Rattle.nc_world.specs.Moves.{Handles}
 use Rattle.nc_worker_state.specs.Incoming.{incoming_of}
 use Rattle.nc_world_laws.proofs.Moving.{outside_good}
 use Rattle.nc_floor.specs.Floor.{setup_in, world_of}
-use Rattle.nc_floor.proofs.Standing.{me_is, still_floor}
+use Rattle.nc_floor.proofs.OnFloor.{me_is, still_floor}
 use Rattle.nc_floor.proofs.moves.handle.Goals as goal
 
 pub act-requires-clause-me : goal.act-requires-clause-me

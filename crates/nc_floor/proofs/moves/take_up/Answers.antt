@@ -1,4 +1,4 @@
-use Rattle.nc_floor.proofs.Standing.{me_is}
+use Rattle.nc_floor.proofs.OnFloor.{me_is}
 use Rattle.nc_floor.proofs.Taking.{some_pending, staffed, right, moved, floor}
 use Rattle.nc_floor.proofs.moves.take_up.Goals as goal
 

@@ -1,5 +1,5 @@
 use Rattle.std.proofs.Common.{ℕ, List, ◌∷◌, [], ◌++◌, ◌≡◌, ◌∙◌, ap, subst, OnOk}
-use Rattle.nc_load.specs.Line.{clock_line}
+use Rattle.nc_load.specs.DrawnLine.{clock_line}
 use Rattle.nc_load.specs.Script.{configuration, rule_line, ended, text_of}
 use Rattle.nc_load.proofs.Text.{five_more}
 use Rattle.nc_load.proofs.script.put_front.Goals as goal

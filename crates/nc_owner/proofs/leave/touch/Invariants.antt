@@ -4,15 +4,15 @@ use Rattle.nc_journal.specs.declared.word.LeftCause.TheVariants.{Expired}
 use Rattle.nc_buffer.specs.Buffer.{is_expired}
 use Rattle.nc_owner.specs.Leave.{left_event, let_go, touch_events, touched}
 use Rattle.nc_owner.specs.Pool.{SameOthers}
-use Rattle.nc_owner.specs.State.{at}
+use Rattle.nc_owner.specs.State.{bench_from}
 use Rattle.nc_owner.proofs.leave.touch.Given as goal
 
 abbrev pub invariant-loop-entry : goal.invariant-loop-entry
 invariant-loop-entry g l = record {
   me : l.desk.me ≡ l.fn.desk.me;
   clock : l.now ≡ l.fn.desk.clock;
-  events : l.events ++ map (left_event l.fn.desk.me l.name Expired) (filter (is_expired l.now) l.channel.backlog.entries) ≡ l.fn.events ++ touch_events l.name (at l.fn.desk (g.P.Slots.slots l.fn.pool l.fn.desk.me) l.fn.channel);
-  bench : let_go (is_expired l.now) (at l.desk (g.P.Slots.slots l.pool l.fn.desk.me) l.channel) ≡ touched (at l.fn.desk (g.P.Slots.slots l.fn.pool l.fn.desk.me) l.fn.channel);
+  events : l.events ++ map (left_event l.fn.desk.me l.name Expired) (filter (is_expired l.now) l.channel.backlog.entries) ≡ l.fn.events ++ touch_events l.name (bench_from l.fn.desk (g.P.Slots.slots l.fn.pool l.fn.desk.me) l.fn.channel);
+  bench : let_go (is_expired l.now) (bench_from l.desk (g.P.Slots.slots l.pool l.fn.desk.me) l.channel) ≡ touched (bench_from l.fn.desk (g.P.Slots.slots l.fn.pool l.fn.desk.me) l.fn.channel);
   others : SameOthers l.fn.desk.me (g.P.Slots.slots l.fn.pool) (g.P.Slots.slots l.pool);
   holds : g.P.Slots.exact ≡ true → g.P.Slots.holds l.pool ≡ g.P.Slots.holds l.fn.pool;
 }

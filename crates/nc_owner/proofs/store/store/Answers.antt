@@ -1,7 +1,7 @@
 use Rattle.std.proofs.Common.{◌∙◌, ap, refl, sym, arith}
 use Rattle.std.proofs.lemmas.Grind.{common_steps}
 use Rattle.nc_owner.specs.Publish.{stamp}
-use Rattle.nc_owner.specs.State.{Bench, at}
+use Rattle.nc_owner.specs.State.{Bench, bench_from}
 use Rattle.nc_owner.proofs.Storing.{whole}
 use Rattle.nc_owner.proofs.store.store.Goals as goal
 
@@ -11,7 +11,7 @@ store_message-requires-clause-id g c = c.requires.id ∙ sym (ap (λ (b : Bench)
 pub returns-clause-stored : goal.returns-clause-stored
 returns-clause-stored g c =
     let me = c.args.desk.now.me in
-    whole g.P.Slots.held g.P.Slots.exact c.args.from me c.args.order c.in_ok-left.left.items (at c.args.desk.now (g.P.Slots.slots c.args.pool.now me) c.args.channel.now) c.args.id
+    whole g.P.Slots.held g.P.Slots.exact c.args.from me c.args.order c.in_ok-left.left.items (bench_from c.args.desk.now (g.P.Slots.slots c.args.pool.now me) c.args.channel.now) c.args.id
     (g.P.Slots.slots c.args.pool.now) (g.P.Slots.slots c.make_room.new.pool) (g.P.Slots.slots c.store_message.new.pool) (g.P.Slots.holds c.args.pool.now) (g.P.Slots.holds c.make_room.new.pool) (g.P.Slots.holds c.store_message.new.pool)
     c.make_room.new.desk c.store_message.new.desk c.make_room.new.channel c.store_message.new.channel c.args.events c.make_room.new.events c.store_message.new.events c.new-alerts.result c.store_message.new.alerts c.push.new.self _ c.in_ok-info.info
     (record {

@@ -1,7 +1,7 @@
 use Rattle.std.proofs.Common.{◌≡◌, ◌<◌, ℕ, List, ◌∷◌, length, refl, sym, ◌∙◌, ap, subst, arith, ◌==◌, Err}
 use Rattle.std.specs.List.{after_first}
 use Rattle.nc_worker_state.specs.Setup.{setup_of}
-use Rattle.nc_cluster.specs.Line.{pure_line, CanMake}
+use Rattle.nc_cluster.specs.PureLine.{pure_line, CanMake}
 use Rattle.nc_cluster.specs.Stands.{seen}
 use Rattle.nc_replay.specs.Script.{lines_of}
 use Rattle.nc_replay.specs.Lines.{line_after}

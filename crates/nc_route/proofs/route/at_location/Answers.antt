@@ -4,7 +4,7 @@ use Rattle.nc_multi.specs.Names.{IsListOf, IsRefused}
 use Rattle.nc_route.specs.Query.{ids_of}
 use Rattle.nc_route.specs.Rules.{kind_of}
 use Rattle.nc_route.proofs.Steps.{listed, ids_refused, a_kind, not_more, fits, err_of}
-use Rattle.nc_route.specs.Steps.{Fits}
+use Rattle.nc_route.specs.Steps.{KeepsBodyAndMethod}
 use Rattle.nc_route.proofs.route.at_location.Goals as goal
 
 pub returns-in-Ok-clause-decided : goal.returns-in-Ok-clause-decided
@@ -33,7 +33,7 @@ returns-in-Ok-clause-wanting c =
     let q = c.args.request.now in
     let short : nat_lt l.settings.max_body (length q.body) ≡ false = search rules in
     let kind : kind_of l q.method ≡ Some c.in-Some.kind = sym (c.kind_of.ensures ∙ ap (kind_of l) c.as_slice.ensures) ∙ c.in-Some.is in
-    err_of (Fits l q) c.with_list.result (fits l q c.in-Some.kind short kind)
+    err_of (KeepsBodyAndMethod l q) c.with_list.result (fits l q c.in-Some.kind short kind)
 
 pub returns-clause-wanting : goal.returns-clause-wanting
 returns-clause-wanting c =
@@ -41,4 +41,4 @@ returns-clause-wanting c =
     let q = c.args.request.now in
     let short : nat_lt l.settings.max_body (length q.body) ≡ false = search rules in
     let kind : kind_of l q.method ≡ Some c.in-Some.kind = sym (c.kind_of.ensures ∙ ap (kind_of l) c.as_slice.ensures) ∙ c.in-Some.is in
-    err_of (Fits l q) c.refuse_ids.result (fits l q c.in-Some.kind short kind)
+    err_of (KeepsBodyAndMethod l q) c.refuse_ids.result (fits l q c.in-Some.kind short kind)

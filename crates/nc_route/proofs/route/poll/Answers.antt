@@ -1,6 +1,6 @@
 use Rattle.std.proofs.Common.{rules, sym, ◌∙◌, ap, subst, ◌≡◌, ℕ, true, length, List}
 use Rattle.nc_route.specs.declared.decision.Decision.TheVariants as decisions
-use Rattle.nc_route.specs.Begin.{given, IsStart}
+use Rattle.nc_route.specs.Begin.{given, IsGivenStart}
 use Rattle.nc_route.specs.Rules.{names_of, subscription_rules}
 use Rattle.nc_route.proofs.Steps.{poll_started, poll_refused}
 use Rattle.nc_route.proofs.route.poll.Goals as goal
@@ -12,7 +12,7 @@ returns-in-Ok c =
     let q = c.args.request.now in
     let n : c.len.result ≡ length (names_of l q) = c.len.ensures ∙ ap length (c.list.view_is ∙ c.requires.list) in
     let has : l.longpoll ≡ true = search rules in
-    let is : IsStart l.settings (length (names_of l q)) (given q) c.in-Ok.start = subst (λ (k : ℕ). IsStart l.settings k (given q) c.in-Ok.start) n c.in-Ok.ensures.ok in
+    let is : IsGivenStart l.settings (length (names_of l q)) (given q) c.in-Ok.start = subst (λ (k : ℕ). IsGivenStart l.settings k (given q) c.in-Ok.start) n c.in-Ok.ensures.ok in
     subst (λ (names : List (List ℕ)). DecidesAt subscription_rules l q (decisions.LongPoll names c.in-Ok.start l.settings)) (sym c.requires.list)
     (poll_started l q c.in-Ok.start c.requires.kind c.requires.way has is)
 

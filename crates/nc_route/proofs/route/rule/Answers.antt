@@ -1,7 +1,8 @@
 use Rattle.std.proofs.Common.{rules, ◌≡◌, sym, ap, subst, true, false, Some}
 use Rattle.std.specs.Option.{option_copied}
 use Rattle.nc_route.specs.declared.decision.Decision.{Decision}
-use Rattle.nc_route.specs.Rules.{begins_slash, has_role, Decides}
+use Rattle.nc_types.specs.Text.{begins_slash}
+use Rattle.nc_route.specs.Rules.{has_role, Decides}
 use Rattle.nc_route.specs.Place.{IsLocationOf}
 use Rattle.nc_route.proofs.Steps.{no_slash, no_place, placed, keeps_early, found_so}
 use Rattle.nc_route.proofs.route.rule.Goals as goal

@@ -2,7 +2,7 @@ use Rattle.std.proofs.Common.{sym, ◌∙◌, ap, subst, ◌≡◌}
 use Rattle.std.specs.Option.{option_copied}
 use Rattle.std.proofs.lemmas.Result.{err_from_is_err_and}
 use Rattle.nc_types.specs.declared.start.Start.TheVariants as starts
-use Rattle.nc_route.specs.Begin.{Given, given_by_date, IsStart}
+use Rattle.nc_route.specs.Begin.{Given, given_by_date, IsGivenStart}
 use Rattle.nc_route.specs.Begin.Given.{DateAndTags}
 use Rattle.nc_route.specs.declared.start.StartRefusal.{StartRefusal}
 use Rattle.nc_route.proofs.Starts.{told, no_date, tags_refused, tags_started}
@@ -38,4 +38,4 @@ returns-in_ok-read_tags-in-Some-tags-clause-ok c settings =
     let cursor = c.in_ok-read_tags-in-Some-tags.field-0 in
     let ok = c.in_ok-read_tags-in-Some-tags.ensures.ok in
     let given : DateAndTags date text ≡ given_by_date date (option_copied c.args.tags) = ap (DateAndTags date) c.tags_in.ensures ∙ sym (ap (λ o. given_by_date date (option_copied o)) c.in-Some-tags.is) in
-    subst (λ (g : Given). IsStart settings n g (starts.Given cursor)) given (tags_started settings n date text c.in-Some.time cursor c.in-Some.ensures.some ok.0 ok.1 ok.2)
+    subst (λ (g : Given). IsGivenStart settings n g (starts.Given cursor)) given (tags_started settings n date text c.in-Some.time cursor c.in-Some.ensures.some ok.0 ok.1 ok.2)

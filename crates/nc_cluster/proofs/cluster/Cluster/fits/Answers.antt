@@ -1,5 +1,5 @@
 use Rattle.std.proofs.Common.{ap, ◌∙◌}
-use Rattle.nc_cluster.specs.Line.{pure_line}
+use Rattle.nc_cluster.specs.PureLine.{pure_line}
 use Rattle.nc_cluster.specs.Comers.{noted, rule_of}
 use Rattle.nc_cluster.specs.Stands.{seen}
 use Rattle.nc_cluster.proofs.Joining.{rule_told}

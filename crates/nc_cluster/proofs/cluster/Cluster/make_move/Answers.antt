@@ -1,4 +1,4 @@
-use Rattle.nc_cluster.specs.Line.{pure_line}
+use Rattle.nc_cluster.specs.PureLine.{pure_line}
 use Rattle.nc_cluster.proofs.Joining.{goes_on, left}
 use Rattle.nc_cluster.proofs.cluster.Cluster.make_move.Goals as goal
 

@@ -3,7 +3,7 @@ use Rattle.nc_owner.specs.Holds.{AllCarry}
 use Rattle.nc_owner.specs.AlertLines.{out_lines}
 use Rattle.nc_owner.specs.Pool.{SameOthers}
 use Rattle.nc_owner.specs.PublishClauses.{Publishes}
-use Rattle.nc_owner.specs.Publish.{message_of, stamp}
+use Rattle.nc_owner.specs.Publish.{message_of_order, stamp}
 use Rattle.nc_owner.specs.State.{OwnerAt, bench_of}
 use Rattle.nc_owner.proofs.PublishRules.{answered_rule, late_rule, full_rule, members_rule, retired_rule, freed_rule, lowest_rule}
 use Rattle.nc_owner.proofs.owner.Owner.publish.Given.{Over}
@@ -19,7 +19,7 @@ pub returns-clause-publishes : goal.returns-clause-publishes
 returns-clause-publishes g c = published g c
 
 pub returns-clause-carries : goal.returns-clause-carries
-returns-clause-carries g c = subst (λ (s : OwnerAt). AllCarry g.P.Slots.held s.desk.me (message_of (stamp (bench_of c.args.order.chan (g.P.Slots.slots c.args.pool.now s.desk.me) s)) c.args.order s.desk.clock) c.in_ok-done.done.alerts) c.self.view_is c.in_ok-done.ensures.carries
+returns-clause-carries g c = subst (λ (s : OwnerAt). AllCarry g.P.Slots.held s.desk.me (message_of_order (stamp (bench_of c.args.order.chan (g.P.Slots.slots c.args.pool.now s.desk.me) s)) c.args.order s.desk.clock) c.in_ok-done.done.alerts) c.self.view_is c.in_ok-done.ensures.carries
 
 pub returns-clause-others : goal.returns-clause-others
 returns-clause-others g c = (subst (λ (s : OwnerAt). SameOthers s.desk.me (g.P.Slots.slots c.args.pool.now) (g.P.Slots.slots c.publish_to.new.pool)) c.self.view_is c.in_ok-done.ensures.others)

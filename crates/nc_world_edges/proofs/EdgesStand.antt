@@ -1,13 +1,13 @@
 -- The asks for edges that an owner took of a worker, the edges that it told for it, and the answers that it made: as one event or alert follows another.
 use Rattle.std.proofs.Common.{◌≡◌, inl, inr, ℕ, ◌≤◌, Bool, true, false, cond, List, [], ◌∷◌, ◌++◌, refl, sym, ap, ◌∙◌, subst, arith}
-use Rattle.std.specs.Prelude.{◌&&◌, ◌==◌, nat_eq}
+use Rattle.std.specs.Prelude.{◌&&◌, ◌==◌, nat_eq, bytes_eq}
 use Rattle.std.specs.List.{AllByRecursion, list_any}
 use Rattle.std.proofs.lemmas.Bool.{or_left, or_right}
 use Rattle.std.proofs.lemmas.Bool.Decides.{nat_tests}
 use Rattle.std.proofs.lemmas.List.{append-nil}
 use Rattle.std.proofs.lemmas.List.Folds.{list_any-append}
 use Rattle.nc_types.specs.Id.{Id}
-use Rattle.nc_types.specs.Channel.{owner_of, name_eq}
+use Rattle.nc_types.specs.Channel.{owner_of}
 use Rattle.nc_journal.specs.Edges.{EdgeTold, edge_told, edges_of}
 use Rattle.nc_journal.specs.History.{onto}
 use Rattle.nc_journal.specs.declared.event.Event.{Event}
@@ -56,7 +56,7 @@ told_case true t x ts has = inr has
 told_case false t x ts has = has
 
 told_more : (w k : ℕ) (c : List ℕ) (t : EdgeTold) (e : Event) (l : List Event) → HasTold t (edges_of w k c l) → HasTold t (edges_of w k c (e ∷ l))
-told_more w k c t (Edged v q from number n d floor last) l has = told_case ((from == w) && ((n == k) && name_eq d c)) t (edge_told number floor last) (edges_of w k c l) has
+told_more w k c t (Edged v q from number n d floor last) l has = told_case ((from == w) && ((n == k) && bytes_eq d c)) t (edge_told number floor last) (edges_of w k c l) has
 told_more w k c t e l has = has
 
 answers_more : (workers o w : ℕ) (e : Event) (l : List Event) (a : AlertLine) → AnswersEdge workers o w l a → AnswersEdge workers o w (e ∷ l) a
@@ -124,7 +124,7 @@ asks_stand workers o w asks later l got more s = record {
 
 numbers_append : (k : ℕ) (c : List ℕ) (xs ys : List AlertLine) → edge_numbers k c (xs ++ ys) ≡ edge_numbers k c xs ++ edge_numbers k c ys
 numbers_append k c [] ys = refl
-numbers_append k c (lines.Edge number n d fence ∷ xs) ys = by ((n == k) && name_eq d c) (numbers_append k c xs ys)
+numbers_append k c (lines.Edge number n d fence ∷ xs) ys = by ((n == k) && bytes_eq d c) (numbers_append k c xs ys)
   where
     by : (b : Bool) → edge_numbers k c (xs ++ ys) ≡ edge_numbers k c xs ++ edge_numbers k c ys → cond b (number ∷ edge_numbers k c (xs ++ ys)) (edge_numbers k c (xs ++ ys)) ≡ cond b (number ∷ edge_numbers k c xs) (edge_numbers k c xs) ++ edge_numbers k c ys
     by true is = ap (λ (l : List ℕ). number ∷ l) is
@@ -161,12 +161,12 @@ and_second false b e = absurd cc
 same_number : (a b : ℕ) → nat_eq a b ≡ true → a ≡ b
 same_number a b e = grind (arith, nat_tests)
 
-same_name : (a b : List ℕ) → name_eq a b ≡ true → a ≡ b
+same_name : (a b : List ℕ) → bytes_eq a b ≡ true → a ≡ b
 same_name [] [] e = refl
 same_name [] (y ∷ b) e = absurd cc
 same_name (x ∷ a) [] e = absurd cc
 same_name (x ∷ a) (y ∷ b) e =
-    ap (λ (n : ℕ). n ∷ a) (same_number x y (and_first (nat_eq x y) (name_eq a b) e)) ∙ ap (λ (l : List ℕ). y ∷ l) (same_name a b (and_second (nat_eq x y) (name_eq a b) e))
+    ap (λ (n : ℕ). n ∷ a) (same_number x y (and_first (nat_eq x y) (bytes_eq a b) e)) ∙ ap (λ (l : List ℕ). y ∷ l) (same_name a b (and_second (nat_eq x y) (bytes_eq a b) e))
 
 module _ (workers o w number k fence floor : ℕ) (c : List ℕ) (last : Id) (asks l : List Event) (got : List AlertLine) (u q v n p : ℕ) (owner : owner_of workers c ≡ o) (s : EdgesStand workers o w asks l got) where
   abbrev t : EdgeTold
@@ -183,27 +183,27 @@ module _ (workers o w number k fence floor : ℕ) (c : List ℕ) (last : Id) (as
     abbrev more : List Event
     more = Made v w n line ∷ edge ∷ l
 
-    edges_more : (j : ℕ) (d : List ℕ) → edges_of w j d more ≡ cond ((k == j) && name_eq c d) (t ∷ edges_of w j d l) (edges_of w j d l)
-    edges_more j d = ap (λ b. cond (b && ((k == j) && name_eq c d)) (t ∷ edges_of w j d l) (edges_of w j d l)) (eqb_self w)
+    edges_more : (j : ℕ) (d : List ℕ) → edges_of w j d more ≡ cond ((k == j) && bytes_eq c d) (t ∷ edges_of w j d l) (edges_of w j d l)
+    edges_more j d = ap (λ b. cond (b && ((k == j) && bytes_eq c d)) (t ∷ edges_of w j d l) (edges_of w j d l)) (eqb_self w)
 
     made_more : made_to w more ≡ made_to w l ++ line ∷ []
     made_more = ap (λ b. cond b (made_to w l ++ line ∷ []) (made_to w l)) (eqb_self w)
 
     edge_done : (j : ℕ) (d : List ℕ) → old_first (edges_of w j d more) ≡ edge_numbers j d (got ++ lines.Edge number k c fence ∷ [])
-    edge_done j d = ap old_first (edges_more j d) ∙ by ((k == j) && name_eq c d) (s.done j d) ∙ sym (numbers_append j d got (lines.Edge number k c fence ∷ []))
+    edge_done j d = ap old_first (edges_more j d) ∙ by ((k == j) && bytes_eq c d) (s.done j d) ∙ sym (numbers_append j d got (lines.Edge number k c fence ∷ []))
       where
         by : (b : Bool) → old_first (edges_of w j d l) ≡ edge_numbers j d got → old_first (cond b (t ∷ edges_of w j d l) (edges_of w j d l)) ≡ edge_numbers j d got ++ cond b (number ∷ []) []
         by true is = ap (λ (ns : List ℕ). ns ++ number ∷ []) is
         by false is = is ∙ sym (append-nil (edge_numbers j d got))
 
     edge_asked : (j : ℕ) (d : List ℕ) → AllByRecursion (IsAskedBehind j d asks) (edges_of w j d more)
-    edge_asked j d = subst (AllByRecursion (IsAskedBehind j d asks)) (sym (edges_more j d)) (by ((k == j) && name_eq c d) refl (s.asked j d))
+    edge_asked j d = subst (AllByRecursion (IsAskedBehind j d asks)) (sym (edges_more j d)) (by ((k == j) && bytes_eq c d) refl (s.asked j d))
       where
         here : k ≡ j → c ≡ d → HasEdgeAsk number j d fence asks
         here e f = subst (λ (i : ℕ). HasEdgeAsk number i d fence asks) e (subst (λ (x : List ℕ). HasEdgeAsk number k x fence asks) f ask)
 
-        by : (b : Bool) → ((k == j) && name_eq c d) ≡ b → AllByRecursion (IsAskedBehind j d asks) (edges_of w j d l) → AllByRecursion (IsAskedBehind j d asks) (cond b (t ∷ edges_of w j d l) (edges_of w j d l))
-        by true e all = (record { fence = fence; asked = here (eq_of k j (and_first (k == j) (name_eq c d) e)) (same_name c d (and_second (k == j) (name_eq c d) e)); fenced = fenced }, all)
+        by : (b : Bool) → ((k == j) && bytes_eq c d) ≡ b → AllByRecursion (IsAskedBehind j d asks) (edges_of w j d l) → AllByRecursion (IsAskedBehind j d asks) (cond b (t ∷ edges_of w j d l) (edges_of w j d l))
+        by true e all = (record { fence = fence; asked = here (eq_of k j (and_first (k == j) (bytes_eq c d) e)) (same_name c d (and_second (k == j) (bytes_eq c d) e)); fenced = fenced }, all)
         by false e all = all
 
     edge_here : IsAnsweredTo w more t
@@ -215,7 +215,7 @@ module _ (workers o w number k fence floor : ℕ) (c : List ℕ) (last : Id) (as
     edge_answered : (j : ℕ) (d : List ℕ) → AllByRecursion (IsAnsweredTo w more) (edges_of w j d more)
     edge_answered j d =
         subst (AllByRecursion (IsAnsweredTo w more)) (sym (edges_more j d))
-        (by ((k == j) && name_eq c d) (all_of (IsAnsweredTo w l) (IsAnsweredTo w more) (λ x is. answered_more w (Made v w n line) (edge ∷ l) x (answered_more w edge l x is)) (edges_of w j d l) (s.answered j d)))
+        (by ((k == j) && bytes_eq c d) (all_of (IsAnsweredTo w l) (IsAnsweredTo w more) (λ x is. answered_more w (Made v w n line) (edge ∷ l) x (answered_more w edge l x is)) (edges_of w j d l) (s.answered j d)))
       where
         by : (b : Bool) → AllByRecursion (IsAnsweredTo w more) (edges_of w j d l) → AllByRecursion (IsAnsweredTo w more) (cond b (t ∷ edges_of w j d l) (edges_of w j d l))
         by true all = (edge_here, all)
@@ -236,7 +236,7 @@ module _ (workers o w number k fence floor : ℕ) (c : List ℕ) (last : Id) (as
     beside = Made v x n line ∷ Edged u q x number k c floor last ∷ l
 
     edges_same : (j : ℕ) (d : List ℕ) → edges_of w j d beside ≡ edges_of w j d l
-    edges_same j d = ap (λ b. cond (b && ((k == j) && name_eq c d)) (t ∷ edges_of w j d l) (edges_of w j d l)) other
+    edges_same j d = ap (λ b. cond (b && ((k == j) && bytes_eq c d)) (t ∷ edges_of w j d l) (edges_of w j d l)) other
 
     made_same : made_to w beside ≡ made_to w l
     made_same = ap (λ b. cond b (made_to w l ++ line ∷ []) (made_to w l)) other

@@ -26,5 +26,6 @@ pub record ShowsForSends (me workers : ℕ) (l : List Event) : Type 0 where
   pub keeps : OwnerKeeps workers l
 
 abbrev pub StandsForSends : Type 0
-StandsForSends = (me workers slots first : ℕ) (row : List (Slot Message)) (l : List Event) (s : OwnerAt) → Stands me workers slots first row l s → InOrder first l → Along AnswersNew l → AllByRecursion (AskIsOfOwner workers) l
+StandsForSends = (me workers slots first : ℕ) (row : List (Slot Message)) (l : List Event) (s : OwnerAt) → Stands me workers slots first row l s
+    → InOrder first l → Along AnswersNew l → AllByRecursion (AskIsOfOwner workers) l
     → ShowsForSends me workers l

@@ -11,13 +11,14 @@ use Rattle.nc_journal.specs.Edges.{EdgeTold, edges_of}
 use Rattle.nc_journal.specs.Newest.{greatest_time, cursor_behind, StartsByEdges}
 
 -- the edges of a channel that a start has heard of: one whose floor isn't below the time, or a second one that isn't
-pub data Told (time : ℕ) (last : Id) : List EdgeTold → Type 0 where
-  Once : (first : EdgeTold) → first.last ≡ last → time ≤ first.floor → Told time last (first ∷ [])
-  Twice : (second first : EdgeTold) → first.last ≡ last → first.floor < time → time ≤ second.floor → Told time last (second ∷ first ∷ [])
+pub data EdgesTold (time : ℕ) (last : Id) : List EdgeTold → Type 0 where
+  Once : (first : EdgeTold) → first.last ≡ last → time ≤ first.floor → EdgesTold time last (first ∷ [])
+  Twice : (second first : EdgeTold) → first.last ≡ last → first.floor < time → time ≤ second.floor → EdgesTold time last (second ∷ first ∷ [])
 
 abbrev pub ToldStarts : Type 0
-ToldStarts = (workers w k : ℕ) (list : List (List ℕ)) (lasts : List Id) (h : List Event) → AllByRecursion (IsByOwner workers) h → length lasts ≡ length list
-    → ((j : ℕ) (c : List ℕ) (last : Id) → slice_get list j ≡ Some c → slice_get lasts j ≡ Some last → Told (greatest_time lasts) last (edges_of w k c h))
+ToldStarts = (workers w k : ℕ) (list : List (List ℕ)) (lasts : List Id) (h : List Event) → AllByRecursion (IsByOwner workers) h
+    → length lasts ≡ length list
+    → ((j : ℕ) (c : List ℕ) (last : Id) → slice_get list j ≡ Some c → slice_get lasts j ≡ Some last → EdgesTold (greatest_time lasts) last (edges_of w k c h))
     → StartsByEdges workers w k list (cursor_behind lasts) h
 
 -- the last id that an edge was answered with

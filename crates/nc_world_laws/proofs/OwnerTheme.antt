@@ -55,22 +55,30 @@ pub record StepsKeep (setup : Setup) (me : ℕ) (P : OwnerFact) (next : ℕ → 
   pub raise : (fence : ℕ) → s.desk.floor < fence → P row (Raised me fence ∷ h) (with_floor fence s)
   pub edge : (from number k : ℕ) (c : List ℕ) → owner_of setup.workers c ≡ me → from < setup.workers → touch_events_of c row s ≡ []
       → P row (Made me from (next from) (EdgeAnswer number s.desk.looks s.desk.floor (last_in c s)) ∷ Edged me s.desk.looks from number k c s.desk.floor (last_in c s) ∷ h) (edged s)
-  pub join : (m : Member) (c : List ℕ) → owner_of setup.workers c ≡ me → m.from < setup.workers → P (touched_row c row s) (onto (weave me next (join_events m c row s) []) h) (join_after m c row s)
-  pub part : (m : Member) (c : List ℕ) → owner_of setup.workers c ≡ me → m.from < setup.workers → P (touched_row c row s) (onto (weave me next (part_events m c row s) []) h) (part_after m c row s)
-  pub info : (from r : ℕ) (c : List ℕ) → owner_of setup.workers c ≡ me → from < setup.workers → P (touched_row c row s) (onto (weave me next (touch_events_of c row s) (info_alerts from r c row s)) h) (touch_after c row s)
-  pub touch : (c : List ℕ) → owner_of setup.workers c ≡ me → P (touched_row c row s) (onto (weave me next (touch_events_of c row s) []) h) (touch_after c row s)
+  pub join : (m : Member) (c : List ℕ) → owner_of setup.workers c ≡ me → m.from < setup.workers
+      → P (touched_row c row s) (onto (weave me next (join_events m c row s) []) h) (join_after m c row s)
+  pub part : (m : Member) (c : List ℕ) → owner_of setup.workers c ≡ me → m.from < setup.workers
+      → P (touched_row c row s) (onto (weave me next (part_events m c row s) []) h) (part_after m c row s)
+  pub info : (from r : ℕ) (c : List ℕ) → owner_of setup.workers c ≡ me → from < setup.workers
+      → P (touched_row c row s) (onto (weave me next (touch_events_of c row s) (info_alerts from r c row s)) h) (touch_after c row s)
+  pub touch : (c : List ℕ) → owner_of setup.workers c ≡ me
+      → P (touched_row c row s) (onto (weave me next (touch_events_of c row s) []) h) (touch_after c row s)
   pub remove : (c : List ℕ) (cause : RemovedCause) → owner_of setup.workers c ≡ me → MayGo cause c s
       → P (removed_row c row s) (onto (weave me next (removal_events c cause s) (removal_alerts c s)) h) (removed_after c (last_in c s) s)
   pub look : (from number : ℕ) (c : List ℕ) (id : Id) → owner_of setup.workers c ≡ me → from < setup.workers → P (look_row from c id row s) (onto (weave me next (look_events from number c id row s) (look_alerts from number c id row s)) h) (look_after from c id row s)
-  pub polled : (answers : List PollAnswer) → map slot_of answers ≡ s.desk.retired → P (polled_row answers row) (onto (weave me next (polled_events answers s) []) h) (polled_after answers s)
-  pub publish : (from : ℕ) (o : Order) (polls : Polls) → owner_of setup.workers o.chan ≡ me → from < setup.workers → PublishPolls true counts o row s polls
+  pub polled : (answers : List PollAnswer) → map slot_of answers ≡ s.desk.retired
+      → P (polled_row answers row) (onto (weave me next (polled_events answers s) []) h) (polled_after answers s)
+  pub publish : (from : ℕ) (o : Order) (polls : Polls) → owner_of setup.workers o.chan ≡ me → from < setup.workers
+      → PublishPolls true counts o row s polls
       → P (publish_row o polls row s) (onto (weave me next (publish_events from o polls row s) (publish_alerts from o polls row s)) h) (publish_after o polls row s)
 
 -- a theme: a fact that holds of a new owner and that each step keeps
 pub record IsOwnerTheme (setup : Setup) (me : ℕ) (P : OwnerFact) : Type 0 where
   pub new : P (replicate setup.slots Unused) [] (new_owner me setup.workers setup.slots setup.first)
-  pub step : (next : ℕ → ℕ) (row : List (Slot Message)) (counts : List ℕ) (h : List Event) (s : OwnerAt) → StepBase setup me row counts h s → P row h s → StepsKeep setup me P next row counts h s
+  pub step : (next : ℕ → ℕ) (row : List (Slot Message)) (counts : List ℕ) (h : List Event) (s : OwnerAt) → StepBase setup me row counts h s
+      → P row h s → StepsKeep setup me P next row counts h s
 
 -- it holds of that owner in each reached world
 abbrev pub OwnerThemeHolds : Setup → ℕ → OwnerFact → Type 0
-OwnerThemeHolds setup me P = IsSetup setup → IsOwnerTheme setup me P → (h : List Event) (world : World) → Reached setup h world → P (world.rows me) (own me h) (world.workers me).owner
+OwnerThemeHolds setup me P = IsSetup setup → IsOwnerTheme setup me P → (h : List Event) (world : World) → Reached setup h world
+    → P (world.rows me) (own me h) (world.workers me).owner

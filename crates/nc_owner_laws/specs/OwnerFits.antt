@@ -1,5 +1,5 @@
 -- An owner fits the row of its slots.
-use Rattle.std.specs.Prelude.{◌≡◌, ℕ, ◌+◌, List, length}
+use Rattle.std.specs.Prelude.{◌≡◌, ℕ, List, length}
 use Rattle.std.specs.List.{AllByRecursion, flat_map}
 use Rattle.std.specs.List.Sorted.{IsStrictlySortedBy}
 use Rattle.std.specs.Ordering.{nat_cmp}
@@ -11,7 +11,7 @@ use Rattle.nc_buffer.specs.Buffer.{IsRising}
 use Rattle.nc_slots.specs.declared.slot.Slot.{Slot}
 use Rattle.nc_owner.specs.declared.channel.Channel.{Channel}
 use Rattle.nc_owner.specs.Backlog.{IsBacklog}
-use Rattle.nc_owner.specs.State.{OwnerAt, Bench, entries_of}
+use Rattle.nc_owner.specs.State.{OwnerAt, entries_of}
 use Rattle.nc_owner_laws.specs.Used.{times, Agrees}
 use Rattle.nc_owner_laws.specs.Kept.{slots_in, AreIn}
 
@@ -26,19 +26,10 @@ pub record IsRegular (ch : Channel) : Type 0 where
 
 -- the names of the channels ascend; each slot is buffered where it is an entry's, retired where it is among the retired ones,
 -- and never twice; so many entries are buffered as the owner counts; the message of each entry lies in its slot
-pub record Fits (row : List (Slot Message)) (s : OwnerAt) : Type 0 where
+pub record OwnerFits (row : List (Slot Message)) (s : OwnerAt) : Type 0 where
   pub names : IsStrictlySortedBy (slice_cmp nat_cmp) (keys_of s.channels)
   pub slots : length row ≡ s.desk.slots
   pub apart : Agrees (λ k. times k (slots_in (all_entries s.channels))) (λ k. times k s.desk.retired) row
   pub number : s.desk.buffered ≡ length (all_entries s.channels)
   pub kept : AreIn row (all_entries s.channels)
   pub regular : AllByRecursion IsRegular (values_of s.channels)
-
--- the same of what a step on one channel works on, beside the entries of the other channels
-pub record BenchFits (rest : List Entry) (b : Bench) : Type 0 where
-  pub slots : length b.row ≡ b.desk.slots
-  pub apart : Agrees (λ k. times k (slots_in rest) + times k (slots_in (entries_of b.channel))) (λ k. times k b.desk.retired) b.row
-  pub number : b.desk.buffered ≡ length rest + length (entries_of b.channel)
-  pub others : AreIn b.row rest
-  pub kept : AreIn b.row (entries_of b.channel)
-  pub regular : IsRegular b.channel
