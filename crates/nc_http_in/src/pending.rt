@@ -9,6 +9,9 @@ use std::mem;
 /// More room than this isn't kept beside the bytes.
 const ROOM: usize = 1_024;
 
+/// The room that is taken for the first bytes, so that a short request in small pieces takes memory once.
+const FIRST: usize = 256;
+
 /// Takes the first `count` bytes away, and moves the others to the front.
 fn remove_front(bytes: &mut Vec<u8>, count: usize)
     requires { count ≤ length bytes.old.items }
@@ -59,13 +62,16 @@ impl Pending {
         &self.bytes[self.from..]
     }
 
-    /// Moves the bytes to the front.
-    fn pack(&mut self)
+    /// Where bytes were taken off, moves the others to the front, and gives back the room that they don't need.
+    pub fn settle(&mut self)
         ensures { self.new ≡ self.old }
     {
         if self.from > 0 {
             remove_front(&mut self.bytes, self.from);
             self.from = 0;
+            if self.bytes.capacity() / 2 > self.bytes.len().saturating_add(ROOM) {
+                self.bytes.shrink_to_fit();
+            }
         }
     }
 
@@ -78,9 +84,15 @@ impl Pending {
         ensures err { OnErr result (self.new ≡ self.old) }
     {
         if self.bytes.len() - self.from <= self.from {
-            self.pack();
+            self.settle();
         }
-        self.bytes.extend_from_slice(piece)?;
+        if self.bytes.capacity() == 0 {
+            self.bytes.reserve(piece.len().max(FIRST))?;
+        }
+        match piece {
+            [byte] => self.bytes.push(*byte)?,
+            _ => self.bytes.extend_from_slice(piece)?,
+        }
         Ok(())
     }
 
@@ -94,16 +106,6 @@ impl Pending {
             self.bytes.clear();
             self.bytes.shrink_to_fit();
             self.from = 0;
-        }
-    }
-
-    /// Gives back the room that the bytes don't need.
-    pub fn settle(&mut self)
-        ensures { self.new ≡ self.old }
-    {
-        self.pack();
-        if self.bytes.capacity() / 2 > self.bytes.len().saturating_add(ROOM) {
-            self.bytes.shrink_to_fit();
         }
     }
 
