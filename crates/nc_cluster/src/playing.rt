@@ -1,4 +1,4 @@
-//! Lines as moves.
+//! Lines as moves. After want of memory the floor of a line is only to be dropped.
 ghost use Rattle.std.specs.Prelude.{◌≡◌, ◌<◌, [], IfOk, OnOk};
 ghost use Rattle.nc_worker_state.specs.Incoming.{incoming_of};
 ghost use Rattle.nc_world_laws.specs.Outside.{IsOutside};

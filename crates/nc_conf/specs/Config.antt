@@ -110,7 +110,8 @@ has_name name d = bytes_eq d.name.text name
 -- the locations among directives of the numbers from i on
 abbrev pub locations_from : List Directive → ℕ → List Directive → List Location
 locations_from ds i [] = []
-locations_from ds i (d ∷ later) = if has_name (codes "location") d then location_of ds i d ∷ locations_from ds (i + 1) later else locations_from ds (i + 1) later
+locations_from ds i (d ∷ later) =
+    if has_name (codes "location") d then location_of ds i d ∷ locations_from ds (i + 1) later else locations_from ds (i + 1) later
 
 abbrev pub listened : Directive → Option ListenAt
 listened d = option_and_then address (argument d)

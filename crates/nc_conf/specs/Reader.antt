@@ -48,7 +48,8 @@ after_opening s at (Some b) = add s (directive s b at true) (length s.directives
 
 abbrev pub close : SyntaxAt → ℕ → List ℕ → SyntaxAt
 close s at [] = breaks_at s at
-close s at (block ∷ blocks) = record { directives = s.directives; closes = s.closes ++ record { of = block; at = at } ∷ []; blocks = blocks; begun = s.begun; broken = s.broken }
+close s at (block ∷ blocks) =
+    record { directives = s.directives; closes = s.closes ++ record { of = block; at = at } ∷ []; blocks = blocks; begun = s.begun; broken = s.broken }
 
 abbrev pub after_closing : SyntaxAt → ℕ → Option Begun → SyntaxAt
 after_closing s at None = close s at s.blocks
@@ -74,4 +75,5 @@ words_of (Some b) = b.name ∷ b.args
 
 -- all faults of a text of some bytes, by what the reader holds at its end
 abbrev pub all_faults : ℕ → SyntaxAt → Option ℕ → List Fault
-all_faults len s bad = each_directive s.directives [] s.directives ++ flat_map (nameless s.directives) s.closes ++ unended len s.blocks (words_of s.begun) s.broken bad
+all_faults len s bad =
+    each_directive s.directives [] s.directives ++ flat_map (nameless s.directives) s.closes ++ unended len s.blocks (words_of s.begun) s.broken bad

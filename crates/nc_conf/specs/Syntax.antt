@@ -45,8 +45,10 @@ innermost (block ∷ blocks) = Some block
 -- the directives of items, each with the number of the innermost block that is open there
 abbrev pub directives_of : ℕ → List ℕ → List Item → List Directive
 directives_of n blocks [] = []
-directives_of n blocks (Line name args at ∷ items) = record { name = name; args = args; end = at; block = false; within = innermost blocks } ∷ directives_of (n + 1) blocks items
-directives_of n blocks (Opens name args at ∷ items) = record { name = name; args = args; end = at; block = true; within = innermost blocks } ∷ directives_of (n + 1) (n ∷ blocks) items
+directives_of n blocks (Line name args at ∷ items) =
+    record { name = name; args = args; end = at; block = false; within = innermost blocks } ∷ directives_of (n + 1) blocks items
+directives_of n blocks (Opens name args at ∷ items) =
+    record { name = name; args = args; end = at; block = true; within = innermost blocks } ∷ directives_of (n + 1) (n ∷ blocks) items
 directives_of n blocks (Closes at ∷ items) = directives_of n (drop 1 blocks) items
 
 -- the ends of blocks, each with the number of its block

@@ -391,7 +391,8 @@ fn first_of_closes(
 }
 
 fn unended(first: Option<Fault>, len: usize, reading: &Reading<'_>) -> Option<Fault>
-    ensures { result ≡ first_with first (unended len reading.now.syntax.blocks (words_of reading.now.syntax.begun) reading.now.syntax.broken reading.now.bad) }
+    ensures { result ≡ first_with first (unended len reading.now.syntax.blocks
+        (words_of reading.now.syntax.begun) reading.now.syntax.broken reading.now.bad) }
 {
     let syntax = &reading.syntax;
     if let Some(at) = syntax.broken {

@@ -173,7 +173,9 @@ impl<'d, 't> Model for Lines<'d, 't> {
 
     ghost view = { λ lines. map (λ d. d.now) lines.directives.items };
 
-    ghost invariant = { λ lines. KnowsLines (map (λ d. d.now) lines.directives.items) lines.entries × KnowsPaths true (map (λ d. d.now) lines.directives.items) lines.exact × KnowsPaths false (map (λ d. d.now) lines.directives.items) lines.prefixes };
+    ghost invariant = { λ lines. KnowsLines (map (λ d. d.now) lines.directives.items) lines.entries
+        × KnowsPaths true (map (λ d. d.now) lines.directives.items) lines.exact
+        × KnowsPaths false (map (λ d. d.now) lines.directives.items) lines.prefixes };
 }
 
 impl<'d, 't> Lines<'d, 't> {

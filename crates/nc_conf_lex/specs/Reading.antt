@@ -82,4 +82,5 @@ OneComes = (text : List ℕ) (at : ℕ) → (next : Next) × Comes text at next 
 
 -- a text has one list of tokens, and one end or first fault
 abbrev pub OneReading : Type 0
-OneReading = (text : List ℕ) (at : ℕ) (tokens others : List Token) (stop other : Option ℕ) → Reads text at tokens stop → Reads text at others other → (tokens ≡ others) × (stop ≡ other)
+OneReading = (text : List ℕ) (at : ℕ) (tokens others : List Token) (stop other : Option ℕ) → Reads text at tokens stop
+    → Reads text at others other → (tokens ≡ others) × (stop ≡ other)

@@ -51,7 +51,8 @@ abbrev pub closed_at : ℕ → ℕ → List ℕ → Option ℕ → Next
 closed_at at sign bytes None = Breaks at
 closed_at at sign bytes (Some n) =
     let inside = take n bytes in
-    unless_refused (at + 1) (position is_refused inside) (if may_follow (drop (n + 1) bytes) then Holds (Word at (unescape sign false inside)) (at + 2 + n) else Breaks (at + 2 + n))
+    unless_refused (at + 1) (position is_refused inside) (if may_follow (drop (n + 1) bytes)
+    then Holds (Word at (unescape sign false inside)) (at + 2 + n) else Breaks (at + 2 + n))
 
 abbrev pub quoted_at : ℕ → ℕ → List ℕ → Next
 quoted_at at sign bytes = closed_at at sign bytes (closing sign false bytes)

@@ -102,7 +102,8 @@ IsPlain (b ∷ bs) = IsPlainFront (b ∷ bs)
 -- a spelling as it may stand before what follows
 abbrev pub IsSpelling : Spelling → List ℕ → Type 0
 IsSpelling (Plain word) after = IsPlain word × (may_follow after ≡ true)
-IsSpelling (Quoted sign pieces) after = (is_quote sign ≡ true) × ArePieces sign pieces × (list_all is_allowed (pieces_text pieces) ≡ true) × (may_follow after ≡ true)
+IsSpelling (Quoted sign pieces) after =
+    (is_quote sign ≡ true) × ArePieces sign pieces × (list_all is_allowed (pieces_text pieces) ≡ true) × (may_follow after ≡ true)
 IsSpelling Semicolon after = Unit {0}
 IsSpelling OpeningBrace after = Unit {0}
 IsSpelling ClosingBrace after = Unit {0}

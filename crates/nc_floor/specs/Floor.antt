@@ -64,9 +64,11 @@ module _ {W : Type 0} (worker : W → WorkerAt) where
   HasMoved m old new = telling_of worker new ≡ telling m (telling_of worker old)
 
 -- a worker handled something: it and all slots after it, the events, and how many packets waited with it before and do after it
-pub record HandsOver {W : Type 0} (worker : W → WorkerAt) (sound : W → Type 0) (conf : ConfigAt) (incoming : Incoming) (old new : W) (slots new_slots : List RowAt) (events : List Event) (waited waits : ℕ) : Type 0 where
+pub record HandsOver {W : Type 0} (worker : W → WorkerAt) (sound : W → Type 0) (conf : ConfigAt) (incoming : Incoming) (old new : W)
+    (slots new_slots : List RowAt) (events : List Event) (waited waits : ℕ) : Type 0 where
   pub fit : sound new
-  pub handled : (first : ℕ) → IsHandled true (setup_of conf first) (me_of (worker old)) incoming (seat_in (worker old) (me_of (worker old)) slots) events (seat_in (worker new) (me_of (worker old)) new_slots)
+  pub handled : (first : ℕ) → IsHandled true (setup_of conf first) (me_of (worker old)) incoming
+      (seat_in (worker old) (me_of (worker old)) slots) events (seat_in (worker new) (me_of (worker old)) new_slots)
   pub others : (o : ℕ) → o ≢ me_of (worker old) → (row_at new_slots o).slots ≡ (row_at slots o).slots
   pub before : waited ≡ waiting_count conf.workers (worker old)
   pub behind : waits ≡ waiting_count conf.workers (worker new)

@@ -14,6 +14,7 @@ use nc_types::{Config, List, NoMemory};
 use std::alloc::Global;
 
 /// All workers with their slots, the packets on their way, how many packets are pending, and the events of the line at hand.
+/// After want of memory it is only to be dropped.
 #[derive(Drop)]
 pub struct Floor<W> {
     pub(crate) alloc: Global,

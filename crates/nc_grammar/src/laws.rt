@@ -26,7 +26,8 @@ pub fn digits_are_read()
 
 /// Of some words, of which no two are the same, one is read where reading goes on as long as any of them does, and ends with it.
 pub fn words_are_read()
-    ensures { (word : List ℕ) (words : List (List ℕ)) → repeats (word ∷ words) ≡ false → IsExact (IsWord (word ∷ words)) (word_stays (word ∷ words)) (word_at (word ∷ words)) }
+    ensures { (word : List ℕ) (words : List (List ℕ)) → repeats (word ∷ words) ≡ false
+        → IsExact (IsWord (word ∷ words)) (word_stays (word ∷ words)) (word_at (word ∷ words)) }
 {}
 
 /// Bytes are read from their quoted text, of which there is one, and nothing goes on behind it.
@@ -39,6 +40,7 @@ pub fn stops_at_the_place()
     ensures labels { (label : List ℕ) → EndsRightly (IsLabel label) (label_at label) }
     ensures numbers { (limit : ℕ) → limit < 2 ^ 64 → EndsRightly (IsNumber limit) (number_at limit) }
     ensures digits { (most limit : ℕ) → 0 < most → EndsRightly (IsDigits most limit) (digits_at most limit) }
-    ensures words { (word : List ℕ) (words : List (List ℕ)) → repeats (word ∷ words) ≡ false → EndsRightly (IsWord (word ∷ words)) (word_at (word ∷ words)) }
+    ensures words { (word : List ℕ) (words : List (List ℕ)) → repeats (word ∷ words) ≡ false
+        → EndsRightly (IsWord (word ∷ words)) (word_at (word ∷ words)) }
     ensures quoted_texts { EndsRightly IsQuoted quoted_at }
 {}

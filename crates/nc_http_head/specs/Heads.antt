@@ -34,7 +34,8 @@ fields_of h = map field_of h.fields
 
 -- the request of a head, without its body
 abbrev pub request_of : http.RequestHead → Request
-request_of h = record { method = h.method; path = take (path_len h.target) h.target; query = query_of h.target; minor = h.minor; fields = fields_of h; body = [] }
+request_of h =
+    record { method = h.method; path = take (path_len h.target) h.target; query = query_of h.target; minor = h.minor; fields = fields_of h; body = [] }
 
 -- no value has a CR or an LF
 abbrev pub AreOneLine : List Field → Type 0

@@ -23,7 +23,8 @@ spelled_element_at unused t = if unused && begins_with 91 t then spelled_closed_
 abbrev pub more_spelled_tags_at : ℕ → Bool → List ℕ → Read (List ℤ)
 more_spelled_tags_at zero unused t = Found [] t
 more_spelled_tags_at (suc n) unused t =
-    if begins_with 44 t then go_on (spelled_element_at unused (drop 1 t)) (λ e rest. map_read (λ gs. e.0 ∷ gs) (more_spelled_tags_at n e.1 rest)) else Found [] t
+    if begins_with 44 t then go_on (spelled_element_at unused (drop 1 t)) (λ e rest. map_read (λ gs. e.0 ∷ gs) (more_spelled_tags_at n e.1 rest))
+    else Found [] t
 
 -- reads one tag or more, joined by commas
 abbrev pub spelled_tags_at : List ℕ → Read (List ℤ)

@@ -54,7 +54,8 @@ fn push_tag(
     tags: &mut List<i32>,
     brackets_left: &mut bool,
 ) -> Result<(), Fault>
-    ensures read { GivesBy (λ _. (tags.new, brackets_left.new)) reader.new result (map_read (put_last tags.old) (spelled_element_at brackets_left.old reader.old)) }
+    ensures read { GivesBy (λ _. (tags.new, brackets_left.new)) reader.new result
+        (map_read (put_last tags.old) (spelled_element_at brackets_left.old reader.old)) }
     ensures within { OnOk result (AreTags tags.old → (0 < length tags.new) × AreTags tags.new) }
 {
     let tag = element(reader, brackets_left)?;

@@ -22,7 +22,8 @@ edge_told number floor last = record { number = number; floor = floor; last = la
 -- what the edges of subscriber k of a worker at a channel told, the newest one first
 abbrev pub edges_of : (w k : ℕ) → List ℕ → List Event → List EdgeTold
 edges_of w k c [] = []
-edges_of w k c (Edged v q from number n d floor last ∷ h) = if (from == w) && ((n == k) && bytes_eq d c) then edge_told number floor last ∷ edges_of w k c h else edges_of w k c h
+edges_of w k c (Edged v q from number n d floor last ∷ h) =
+    if (from == w) && ((n == k) && bytes_eq d c) then edge_told number floor last ∷ edges_of w k c h else edges_of w k c h
 edges_of w k c (e ∷ h) = edges_of w k c h
 
 -- one edge whose floor isn't below a time, or one whose floor is below it and a second one whose floor isn't; and no other

@@ -20,7 +20,8 @@ stored_message id slot expires ct body = record { id = id; slot = slot; expires 
 -- the messages of a channel that were stored, in the order in which they were
 abbrev pub published : List ℕ → List Event → List Message
 published c [] = []
-published c (Stored w d id slot len exp kept members from r ct body ∷ h) = if bytes_eq d c then published c h ++ stored_message id slot exp ct body ∷ [] else published c h
+published c (Stored w d id slot len exp kept members from r ct body ∷ h) =
+    if bytes_eq d c then published c h ++ stored_message id slot exp ct body ∷ [] else published c h
 published c (e ∷ h) = published c h
 
 -- an event after which a message is gone: it was never kept, or it leaves

@@ -30,7 +30,8 @@ pub record StartsByEdges (workers w k : ℕ) (list : List (List ℕ)) (cur : Cur
 
 -- no message of a channel that was stored before the first edge is past the cursor there, and each that is stored behind the last one is,
 -- also after the start
-pub record StartsBehind (workers w k : ℕ) (c : List ℕ) (time : ℕ) (last at : Id) (newer older : List Event) (e : Edges workers w k c time last older) : Type 0 where
+pub record StartsBehind (workers w k : ℕ) (c : List ℕ) (time : ℕ) (last at : Id) (newer older : List Event)
+    (e : Edges workers w k c time last older) : Type 0 where
   pub before : AllByRecursion (λ m. IsPast m.id at → ⊥) (published c (seen_first e))
   pub later : AllByRecursion (λ m. IsPast m.id at) (published c (newer ++ since_last e))
 

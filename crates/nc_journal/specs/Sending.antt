@@ -40,7 +40,8 @@ pub record RestsOnLook (workers w q : ℕ) (c : List ℕ) (id : Id) (d : List �
   pub found : d ≡ c → HasId (buffer d seen) id ⊎ HasId (published d since) id
 
 -- what a sent keeps for one that stands with a list at a cursor
-pub record IsSentFrom (workers w i : ℕ) (c : List ℕ) (id : Id) (cur : CursorAt) (looks : List ℕ) (list : List (List ℕ)) (old : CursorAt) (newer older : List Event) : Type 0 where
+pub record IsSentFrom (workers w i : ℕ) (c : List ℕ) (id : Id) (cur : CursorAt) (looks : List ℕ) (list : List (List ℕ)) (old : CursorAt)
+    (newer older : List Event) : Type 0 where
   pub channel : slice_get list i ≡ Some c
   pub past : IsPast id (cursor_id old i)
   pub cursor : cur ≡ moved old i id

@@ -22,7 +22,8 @@ new_name_at names t = if_new names (quoted_at t)
 abbrev pub more_names_at : ℕ → List (List ℕ) → List ℕ → Read (List (List ℕ))
 more_names_at zero names t = Found [] t
 more_names_at (suc n) names [] = Found [] []
-more_names_at (suc n) names (c ∷ r) = if c == 44 then add_first (go_on (new_name_at names r) (λ name rest. with_first name (more_names_at n (names ++ name ∷ []) rest))) else Found [] (c ∷ r)
+more_names_at (suc n) names (c ∷ r) = if c == 44 then add_first (go_on (new_name_at names r)
+    (λ name rest. with_first name (more_names_at n (names ++ name ∷ []) rest))) else Found [] (c ∷ r)
 
 -- reads a list of channels
 abbrev pub list_at : List ℕ → Read (List (List ℕ))

@@ -10,7 +10,8 @@ use Rattle.nc_journal.specs.declared.alert.AlertLine.TheVariants as alerts
 abbrev pub publish_row : Row kit AlertLine
 publish_row = record {
   word = codes "publish";
-  fields = field (codes "r") number ∷ field (codes "c") text ∷ field (codes "len") number ∷ field (codes "timeout") number ∷ field (codes "ct") optional_text ∷ field (codes "body") text ∷ [];
+  fields = field (codes "r") number ∷ field (codes "c") text ∷ field (codes "len") number ∷ field (codes "timeout") number
+      ∷ field (codes "ct") optional_text ∷ field (codes "body") text ∷ [];
   make = λ x. alerts.Publish x.0 x.1.0 x.1.1.0 x.1.1.1.0 x.1.1.1.1.0 x.1.1.1.1.1.0;
 }
 
@@ -34,7 +35,8 @@ look_row = record {
 abbrev pub look_answer_row : Row kit AlertLine
 look_answer_row = record {
   word = codes "lookanswer";
-  fields = field (codes "no") number ∷ field (codes "q") number ∷ field (codes "floor") number ∷ field (codes "found") optional_id ∷ field (codes "g") optional_number ∷ field (codes "slot") optional_number ∷ [];
+  fields = field (codes "no") number ∷ field (codes "q") number ∷ field (codes "floor") number ∷ field (codes "found") optional_id
+      ∷ field (codes "g") optional_number ∷ field (codes "slot") optional_number ∷ [];
   make = λ x. alerts.LookAnswer x.0 x.1.0 x.1.1.0 x.1.1.1.0 x.1.1.1.1.0 x.1.1.1.1.1.0;
 }
 
@@ -120,7 +122,8 @@ info_answer_row = record {
 
 -- the alerts behind the first
 abbrev pub alert_rows : List (Row kit AlertLine)
-alert_rows = publish_answer_row ∷ look_row ∷ look_answer_row ∷ notice_row ∷ edge_row ∷ edge_answer_row ∷ join_row ∷ part_row ∷ delete_row ∷ delete_answer_row ∷ gone_row ∷ info_row ∷ info_answer_row ∷ []
+alert_rows = publish_answer_row ∷ look_row ∷ look_answer_row ∷ notice_row ∷ edge_row ∷ edge_answer_row ∷ join_row ∷ part_row
+    ∷ delete_row ∷ delete_answer_row ∷ gone_row ∷ info_row ∷ info_answer_row ∷ []
 
 -- reads an alert: its word, and its fields
 abbrev pub alert_at : List ℕ → Read AlertLine

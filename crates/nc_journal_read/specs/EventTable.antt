@@ -127,7 +127,8 @@ got_row = record {
 abbrev pub asked_row : Row parts Event
 asked_row = record {
   word = codes "asked";
-  fields = field (codes "w") number ∷ field (codes "r") number ∷ field (codes "conn") optional_number ∷ part (codes "act") act ∷ field (codes "list") optional_list ∷ field (codes "status") number ∷ field (codes "rule") number ∷ [];
+  fields = field (codes "w") number ∷ field (codes "r") number ∷ field (codes "conn") optional_number ∷ part (codes "act") act
+      ∷ field (codes "list") optional_list ∷ field (codes "status") number ∷ field (codes "rule") number ∷ [];
   make = λ x. Asked x.0 x.1.0 x.1.1.0 x.1.1.1.0 x.1.1.1.1.0 x.1.1.1.1.1.0 x.1.1.1.1.1.1.0;
 }
 
@@ -135,7 +136,8 @@ asked_row = record {
 abbrev pub answered_row : Row parts Event
 answered_row = record {
   word = codes "answered";
-  fields = field (codes "w") number ∷ field (codes "r") number ∷ field (codes "conn") optional_number ∷ field (codes "status") number ∷ field (codes "info") optional_info ∷ field (codes "json") truth ∷ field (codes "close") truth ∷ [];
+  fields = field (codes "w") number ∷ field (codes "r") number ∷ field (codes "conn") optional_number ∷ field (codes "status") number
+      ∷ field (codes "info") optional_info ∷ field (codes "json") truth ∷ field (codes "close") truth ∷ [];
   make = λ x. Answered x.0 x.1.0 x.1.1.0 x.1.1.1.0 x.1.1.1.1.0 x.1.1.1.1.1.0 x.1.1.1.1.1.1.0;
 }
 
@@ -143,7 +145,8 @@ answered_row = record {
 abbrev pub subscribed_row : Row parts Event
 subscribed_row = record {
   word = codes "subscribed";
-  fields = field (codes "w") number ∷ field (codes "k") number ∷ field (codes "conn") optional_number ∷ field (codes "list") list ∷ part (codes "mode") mode ∷ field (codes "start") start ∷ field (codes "timeout") number ∷ field (codes "close") truth ∷ [];
+  fields = field (codes "w") number ∷ field (codes "k") number ∷ field (codes "conn") optional_number ∷ field (codes "list") list
+      ∷ part (codes "mode") mode ∷ field (codes "start") start ∷ field (codes "timeout") number ∷ field (codes "close") truth ∷ [];
   make = λ x. Subscribed x.0 x.1.0 x.1.1.0 x.1.1.1.0 x.1.1.1.1.0 x.1.1.1.1.1.0 x.1.1.1.1.1.1.0 x.1.1.1.1.1.1.1.0;
 }
 
@@ -181,11 +184,13 @@ raised_row = record {
 
 -- the fields of `stored` that tell where a message lies and until when
 abbrev pub front_fields : List (Field parts)
-front_fields = field (codes "w") number ∷ field (codes "c") text ∷ field (codes "id") id ∷ field (codes "slot") number ∷ field (codes "len") number ∷ field (codes "exp") number ∷ []
+front_fields = field (codes "w") number ∷ field (codes "c") text ∷ field (codes "id") id ∷ field (codes "slot") number
+    ∷ field (codes "len") number ∷ field (codes "exp") number ∷ []
 
 -- the fields of `stored` that tell what a message is
 abbrev pub content_fields : List (Field parts)
-content_fields = field (codes "kept") truth ∷ field (codes "members") number ∷ field (codes "from") number ∷ field (codes "r") number ∷ field (codes "ct") optional_text ∷ field (codes "body") text ∷ []
+content_fields = field (codes "kept") truth ∷ field (codes "members") number ∷ field (codes "from") number ∷ field (codes "r") number
+    ∷ field (codes "ct") optional_text ∷ field (codes "body") text ∷ []
 
 -- their values
 abbrev pub front_of : Values parts front_fields → StoredFront
@@ -212,14 +217,16 @@ abbrev pub stored_row : Row parts Event
 stored_row = record {
   word = codes "stored";
   fields = front_fields ++ content_fields;
-  make = λ x. Stored x.0 x.1.0 x.1.1.0 x.1.1.1.0 x.1.1.1.1.0 x.1.1.1.1.1.0 x.1.1.1.1.1.1.0 x.1.1.1.1.1.1.1.0 x.1.1.1.1.1.1.1.1.0 x.1.1.1.1.1.1.1.1.1.0 x.1.1.1.1.1.1.1.1.1.1.0 x.1.1.1.1.1.1.1.1.1.1.1.0;
+  make = λ x. Stored x.0 x.1.0 x.1.1.0 x.1.1.1.0 x.1.1.1.1.0 x.1.1.1.1.1.0 x.1.1.1.1.1.1.0
+      x.1.1.1.1.1.1.1.0 x.1.1.1.1.1.1.1.1.0 x.1.1.1.1.1.1.1.1.1.0 x.1.1.1.1.1.1.1.1.1.1.0 x.1.1.1.1.1.1.1.1.1.1.1.0;
 }
 
 -- `left` and its fields
 abbrev pub left_row : Row parts Event
 left_row = record {
   word = codes "left";
-  fields = field (codes "w") number ∷ field (codes "c") text ∷ field (codes "id") id ∷ field (codes "slot") number ∷ part (codes "cause") left_cause ∷ [];
+  fields = field (codes "w") number ∷ field (codes "c") text ∷ field (codes "id") id ∷ field (codes "slot") number
+      ∷ part (codes "cause") left_cause ∷ [];
   make = λ x. Left x.0 x.1.0 x.1.1.0 x.1.1.1.0 x.1.1.1.1.0;
 }
 
@@ -227,7 +234,8 @@ left_row = record {
 abbrev pub looked_row : Row parts Event
 looked_row = record {
   word = codes "looked";
-  fields = field (codes "w") number ∷ field (codes "q") number ∷ field (codes "from") number ∷ field (codes "no") number ∷ field (codes "c") text ∷ field (codes "after") id ∷ field (codes "floor") number ∷ field (codes "found") optional_id ∷ [];
+  fields = field (codes "w") number ∷ field (codes "q") number ∷ field (codes "from") number ∷ field (codes "no") number
+      ∷ field (codes "c") text ∷ field (codes "after") id ∷ field (codes "floor") number ∷ field (codes "found") optional_id ∷ [];
   make = λ x. Looked x.0 x.1.0 x.1.1.0 x.1.1.1.0 x.1.1.1.1.0 x.1.1.1.1.1.0 x.1.1.1.1.1.1.0 x.1.1.1.1.1.1.1.0;
 }
 
@@ -235,7 +243,8 @@ looked_row = record {
 abbrev pub edged_row : Row parts Event
 edged_row = record {
   word = codes "edged";
-  fields = field (codes "w") number ∷ field (codes "q") number ∷ field (codes "from") number ∷ field (codes "no") number ∷ field (codes "k") number ∷ field (codes "c") text ∷ field (codes "floor") number ∷ field (codes "last") id ∷ [];
+  fields = field (codes "w") number ∷ field (codes "q") number ∷ field (codes "from") number ∷ field (codes "no") number
+      ∷ field (codes "k") number ∷ field (codes "c") text ∷ field (codes "floor") number ∷ field (codes "last") id ∷ [];
   make = λ x. Edged x.0 x.1.0 x.1.1.0 x.1.1.1.0 x.1.1.1.1.0 x.1.1.1.1.1.0 x.1.1.1.1.1.1.0 x.1.1.1.1.1.1.1.0;
 }
 
@@ -345,7 +354,9 @@ quiet_row = record {
 
 -- the events behind the first
 abbrev pub event_rows : List (Row parts Event)
-event_rows = opened_row ∷ got_row ∷ asked_row ∷ answered_row ∷ subscribed_row ∷ started_row ∷ joined_row ∷ parted_row ∷ raised_row ∷ stored_row ∷ left_row ∷ looked_row ∷ edged_row ∷ granted_row ∷ released_row ∷ freed_row ∷ removed_row ∷ sent_row ∷ ended_row ∷ replied_row ∷ wrote_row ∷ shut_row ∷ made_row ∷ took_row ∷ pending_row ∷ quiet_row ∷ []
+event_rows = opened_row ∷ got_row ∷ asked_row ∷ answered_row ∷ subscribed_row ∷ started_row ∷ joined_row ∷ parted_row ∷ raised_row
+    ∷ stored_row ∷ left_row ∷ looked_row ∷ edged_row ∷ granted_row ∷ released_row ∷ freed_row ∷ removed_row ∷ sent_row ∷ ended_row
+    ∷ replied_row ∷ wrote_row ∷ shut_row ∷ made_row ∷ took_row ∷ pending_row ∷ quiet_row ∷ []
 
 -- reads an event: its word, and its fields
 abbrev pub event_at : List ℕ → Read Event

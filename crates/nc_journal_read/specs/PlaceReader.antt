@@ -51,7 +51,8 @@ bracketed_at (suc j) t = map_read first_and_more (two_at (44 ∷ []) tag_at (bra
 
 -- the tags of a cursor: at the place 0 a single tag stands without brackets
 abbrev pub sent_tags_at : ℕ → List ℕ → Read (List ℤ)
-sent_tags_at zero t = if_first 91 (λ u. map_read first_and_more (field_at (91 ∷ []) (two_at (93 ∷ 44 ∷ []) tag_at (joined_at tag_at)) u)) (λ u. map_read only (tag_at u)) t
+sent_tags_at zero t = if_first 91 (λ u. map_read first_and_more (field_at (91 ∷ []) (two_at (93 ∷ 44 ∷ []) tag_at (joined_at tag_at)) u))
+    (λ u. map_read only (tag_at u)) t
 sent_tags_at (suc i) t = bracketed_at (suc i) t
 
 -- reads the cursor that a message of place i moved
@@ -60,4 +61,5 @@ sent_cursor_at i t = map_read as_cursor (two_at (58 ∷ []) time_at (sent_tags_a
 
 -- reads a place, a channel, an id and a cursor
 abbrev pub sending_at : List ℕ → Read Sending
-sending_at t = go_on (u64_at t) (λ i rest. with_first i (field_at (codes " c=") (two_at (codes " id=") quoted_at (two_at (codes " cur=") written_id_at (sent_cursor_at i))) rest))
+sending_at t = go_on (u64_at t) (λ i rest. with_first i (field_at (codes " c=")
+    (two_at (codes " id=") quoted_at (two_at (codes " cur=") written_id_at (sent_cursor_at i))) rest))

@@ -25,7 +25,8 @@ word_row word value = record { word = word value; fields = []; make = λ x. valu
 
 -- the words behind the first
 abbrev pub act_rows : List (Row kit Act)
-act_rows = word_row act_word acts.Info ∷ word_row act_word acts.Delete ∷ word_row act_word acts.LongPoll ∷ word_row act_word acts.Socket ∷ word_row act_word acts.Refuse ∷ word_row act_word acts.Bad ∷ []
+act_rows = word_row act_word acts.Info ∷ word_row act_word acts.Delete ∷ word_row act_word acts.LongPoll ∷ word_row act_word acts.Socket
+    ∷ word_row act_word acts.Refuse ∷ word_row act_word acts.Bad ∷ []
 
 -- reads such a word
 abbrev pub act_at : List ℕ → Read Act
@@ -57,7 +58,8 @@ removed_at t = line_at kit (word_row removed_word removals.Deleted) removed_rows
 
 -- the words behind the first
 abbrev pub ended_rows : List (Row kit EndedCause)
-ended_rows = word_row ended_word endings.Timeout ∷ word_row ended_word endings.Deleted ∷ word_row ended_word endings.Peer ∷ word_row ended_word endings.Closed ∷ word_row ended_word endings.Frame ∷ []
+ended_rows = word_row ended_word endings.Timeout ∷ word_row ended_word endings.Deleted ∷ word_row ended_word endings.Peer
+    ∷ word_row ended_word endings.Closed ∷ word_row ended_word endings.Frame ∷ []
 
 -- reads such a word
 abbrev pub ended_at : List ℕ → Read EndedCause
@@ -65,7 +67,8 @@ ended_at t = line_at kit (word_row ended_word endings.Answered) ended_rows t
 
 -- the words behind the first
 abbrev pub shut_rows : List (Row kit ShutCause)
-shut_rows = word_row shut_word shuts.Refused ∷ word_row shut_word shuts.Peer ∷ word_row shut_word shuts.Closed ∷ word_row shut_word shuts.Deleted ∷ word_row shut_word shuts.Timeout ∷ word_row shut_word shuts.Frame ∷ []
+shut_rows = word_row shut_word shuts.Refused ∷ word_row shut_word shuts.Peer ∷ word_row shut_word shuts.Closed
+    ∷ word_row shut_word shuts.Deleted ∷ word_row shut_word shuts.Timeout ∷ word_row shut_word shuts.Frame ∷ []
 
 -- reads such a word
 abbrev pub shut_at : List ℕ → Read ShutCause
@@ -73,7 +76,10 @@ shut_at t = line_at kit (word_row shut_word shuts.Asked) shut_rows t
 
 -- the words behind the first
 abbrev pub kind_rows : List (Row kit AlertKind)
-kind_rows = word_row kind_word kinds.PubAnswer ∷ word_row kind_word kinds.Look ∷ word_row kind_word kinds.LookAnswer ∷ word_row kind_word kinds.Notice ∷ word_row kind_word kinds.Edge ∷ word_row kind_word kinds.EdgeAnswer ∷ word_row kind_word kinds.Join ∷ word_row kind_word kinds.Part ∷ word_row kind_word kinds.Delete ∷ word_row kind_word kinds.DelAnswer ∷ word_row kind_word kinds.Gone ∷ word_row kind_word kinds.Info ∷ word_row kind_word kinds.InfoAnswer ∷ []
+kind_rows = word_row kind_word kinds.PubAnswer ∷ word_row kind_word kinds.Look ∷ word_row kind_word kinds.LookAnswer
+    ∷ word_row kind_word kinds.Notice ∷ word_row kind_word kinds.Edge ∷ word_row kind_word kinds.EdgeAnswer ∷ word_row kind_word kinds.Join
+    ∷ word_row kind_word kinds.Part ∷ word_row kind_word kinds.Delete ∷ word_row kind_word kinds.DelAnswer ∷ word_row kind_word kinds.Gone
+    ∷ word_row kind_word kinds.Info ∷ word_row kind_word kinds.InfoAnswer ∷ []
 
 -- reads such a word
 abbrev pub kind_at : List ℕ → Read AlertKind

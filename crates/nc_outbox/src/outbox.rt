@@ -9,6 +9,7 @@ use std::collections::VecDeque;
 use std::marker::Model;
 
 /// The packets that a worker made for one of the others and that weren't carried yet, the oldest first, and the number of the next one.
+/// After want of memory it is only to be dropped.
 #[derive(Drop)]
 pub struct Outbox<H> {
     next: u64,

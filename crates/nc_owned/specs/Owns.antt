@@ -17,7 +17,8 @@ abbrev pub holding_at : (ℕ → List (Slot Message)) → (ℕ → List ℕ) →
 holding_at slots holds s = record { owner = s; row = slots s.desk.me; counts = holds s.desk.me }
 
 -- an owner is left so by a step, with its slots and their holds, and it still fits them
-pub record Leaves (exact : Bool) (after : Holding) (slots new_slots : ℕ → List (Slot Message)) (holds new_holds : ℕ → List ℕ) (s new : OwnerAt) : Type 0 where
+pub record Leaves (exact : Bool) (after : Holding) (slots new_slots : ℕ → List (Slot Message)) (holds new_holds : ℕ → List ℕ)
+    (s new : OwnerAt) : Type 0 where
   pub owner : new ≡ after.owner
   pub row : new_slots s.desk.me ≡ after.row
   pub counts : exact ≡ true → new_holds ≡ with_at holds s.desk.me after.counts
@@ -26,7 +27,8 @@ pub record Leaves (exact : Bool) (after : Holding) (slots new_slots : ℕ → Li
   pub me : new.desk.me ≡ s.desk.me
 
 -- by some answers of its polls it does its part of a step, which is told with the alerts that it makes
-pub record Owns {H : Type 0} (held : H → HoldAt) (exact : Bool) (incoming : Incoming) (slots new_slots : ℕ → List (Slot Message)) (holds new_holds : ℕ → List ℕ) (s new : OwnerAt) (scribe later : ScribeAt H) : Type 0 where
+pub record Owns {H : Type 0} (held : H → HoldAt) (exact : Bool) (incoming : Incoming) (slots new_slots : ℕ → List (Slot Message))
+    (holds new_holds : ℕ → List ℕ) (s new : OwnerAt) (scribe later : ScribeAt H) : Type 0 where
   pub polls : StepPolls
   pub fit : StepPollsFit exact incoming (holding_at slots holds s) polls
   pub leaves : Leaves exact (owned_in polls incoming (holding_at slots holds s)).last.after slots new_slots holds new_holds s new

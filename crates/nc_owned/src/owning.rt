@@ -1,4 +1,5 @@
-//! The steps of an owner, each told with the alerts that it makes.
+//! The steps of an owner, each told with the alerts that it makes. After want of memory the slots, the owner and the scribe of a step
+//! are only to be dropped.
 ghost use Rattle.std.specs.Prelude.{◌≡◌, ◌≤◌, ℕ, OnOk};
 ghost use Rattle.nc_types.specs.Message.{IsContentType};
 ghost use Rattle.nc_journal.specs.declared.alert.AlertLine.TheVariants as lines;

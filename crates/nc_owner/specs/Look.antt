@@ -64,7 +64,8 @@ abbrev pub answered : ℕ → Id → Bench → Bench
 answered from id b = record {
   desk = found_desk (found_on id b) b.desk;
   row = found_row from (found_on id b) b.row;
-  channel = record (with_entries (counted_at (first_past id (entries_of b.channel)) (entries_of b.channel)) b.channel) { marks = found_marks from (found_on id b) b.channel.marks };
+  channel = record (with_entries (counted_at (first_past id (entries_of b.channel)) (entries_of b.channel)) b.channel)
+      { marks = found_marks from (found_on id b) b.channel.marks };
 }
 
 -- the whole step

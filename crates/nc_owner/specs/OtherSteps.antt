@@ -50,7 +50,8 @@ part_after m c row s = after c (exists c s) (parted m (touched_of c row s)) s
 
 -- information
 abbrev pub info_line : ℕ → ℕ → List ℕ → List (Slot Message) → OwnerAt → OutLine
-info_line from r c row s = record { to = from; line = if exists c s then InfoAnswer r 200 (Some (info_of (touched_of c row s).channel)) else InfoAnswer r 404 None }
+info_line from r c row s =
+    record { to = from; line = if exists c s then InfoAnswer r 200 (Some (info_of (touched_of c row s).channel)) else InfoAnswer r 404 None }
 
 abbrev pub info_alerts : ℕ → ℕ → List ℕ → List (Slot Message) → OwnerAt → List OutLine
 info_alerts from r c row s = info_line from r c row s ∷ []

@@ -263,7 +263,8 @@ pub record PublishPolls (exact : Bool) (counts : List ℕ) (o : Order) (row : Li
   pub others : LeavingPolls exact counts o.length (publish_cleared o polls row s) polls
 
 -- a publish, by the answers of its polls
-pub record IsPublished (from : ℕ) (o : Order) (polls : Polls) (row : List (Slot Message)) (s : OwnerAt) (events : List Event) (lines : List OutLine) (new_row : List (Slot Message)) (new : OwnerAt) : Type 0 where
+pub record IsPublished (from : ℕ) (o : Order) (polls : Polls) (row : List (Slot Message)) (s : OwnerAt) (events : List Event) (lines : List OutLine)
+    (new_row : List (Slot Message)) (new : OwnerAt) : Type 0 where
   pub happened : events ≡ publish_events from o polls row s
   pub said : lines ≡ publish_alerts from o polls row s
   pub owner : new ≡ publish_after o polls row s

@@ -20,7 +20,9 @@ TakesSlot room = lowest_unused room.row ≡ Some (lowest_slot room.row)
 
 -- a message was stored from a cleared bench, by the answers of the polls of the slots that were left:
 -- the events behind those before, the alerts and their holds, the bench after it, and what the owners have of slots and holds
-pub record IsStored {H : Type 0} (hold_of : H → HoldAt) (exact : Bool) (from me : ℕ) (o : Order) (left : List PollAnswer) (b : Bench) (slots new_slots : ℕ → List (Slot Message)) (holds new_holds : ℕ → List ℕ) (before events : List Event) (alerts : List (Outgoing H)) (bench : Bench) : Type 0 where
+pub record IsStored {H : Type 0} (hold_of : H → HoldAt) (exact : Bool) (from me : ℕ) (o : Order) (left : List PollAnswer) (b : Bench)
+    (slots new_slots : ℕ → List (Slot Message)) (holds new_holds : ℕ → List ℕ) (before events : List Event) (alerts : List (Outgoing H))
+    (bench : Bench) : Type 0 where
   pub happened : events ≡ before ++ store_events from o left b
   pub said : out_lines alerts ≡ store_alerts from o left b
   pub after_store : bench ≡ store_bench o left b
@@ -31,7 +33,8 @@ pub record IsStored {H : Type 0} (hold_of : H → HoldAt) (exact : Bool) (from m
   pub other_counts : exact ≡ true → SameOthers me holds new_holds
 
 -- by the answers of its polls: whether a message was stored, the events behind those before, the alerts, the bench and the holds after it
-pub record IsPosted (exact : Bool) (from : ℕ) (o : Order) (polls : Polls) (b : Bench) (counts : List ℕ) (done : Bool) (before events : List Event) (lines : List OutLine) (bench : Bench) (new_counts : List ℕ) : Type 0 where
+pub record IsPosted (exact : Bool) (from : ℕ) (o : Order) (polls : Polls) (b : Bench) (counts : List ℕ) (done : Bool) (before events : List Event)
+    (lines : List OutLine) (bench : Bench) (new_counts : List ℕ) : Type 0 where
   pub kind : done ≡ is_stored (outcome o.length polls b)
   pub happened : events ≡ before ++ post_events (outcome o.length polls b) from o polls b
   pub said : lines ≡ post_alerts (outcome o.length polls b) from o polls b

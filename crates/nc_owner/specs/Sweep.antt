@@ -9,7 +9,8 @@ use Rattle.nc_owner.specs.Poll.{PollsOf, AnswersFit}
 use Rattle.nc_owner.specs.OtherSteps.{polled_events, polled_after, polled_row}
 
 -- the retired slots were polled in ascending order, with these answers, which fit the slots: those that nobody holds are unused
-pub record IsPolled (exact : Bool) (counts : List ℕ) (answers : List PollAnswer) (row : List (Slot Message)) (s : OwnerAt) (events : List Event) (new_row : List (Slot Message)) (new : OwnerAt) : Type 0 where
+pub record IsPolled (exact : Bool) (counts : List ℕ) (answers : List PollAnswer) (row : List (Slot Message)) (s : OwnerAt) (events : List Event)
+    (new_row : List (Slot Message)) (new : OwnerAt) : Type 0 where
   pub polls : PollsOf exact counts s.desk.retired answers
   pub fit : AnswersFit row answers
   pub happened : events ≡ polled_events answers s

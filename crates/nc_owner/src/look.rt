@@ -143,7 +143,8 @@ fn answer<P: Slots>(
         ≡ found_line asked.now.from asked.now.number (entry_past asked.now.after channel.old.backlog.entries) desk.old) }
     ensures bench { OnOk result (bench_from desk.new (P.slots pool.new desk.old.me) channel.new
         ≡ answered asked.now.from asked.now.after (bench_from desk.old (P.slots pool.old desk.old.me) channel.old)) }
-    ensures carries { IfOk result (λ out. CarriesFound P.held desk.old.me (P.slots pool.old desk.old.me) (entry_past asked.now.after channel.old.backlog.entries) out) }
+    ensures carries { IfOk result (λ out. CarriesFound P.held desk.old.me (P.slots pool.old desk.old.me)
+        (entry_past asked.now.after channel.old.backlog.entries) out) }
     ensures others { OnOk result (SameOthers desk.old.me (P.slots pool.old) (P.slots pool.new)) }
     ensures holds { OnOk result (P.exact ≡ true
         → P.holds pool.new desk.old.me
@@ -229,13 +230,15 @@ impl Owner {
         ensures owner { OnOk result (self.new ≡ look_after asked.now.from chan asked.now.after (P.slots pool.old self.old.desk.me) self.old) }
         ensures slots { OnOk result (P.slots pool.new self.old.desk.me
             ≡ look_row asked.now.from chan asked.now.after (P.slots pool.old self.old.desk.me) self.old) }
-        ensures carries { IfOk result (λ done. AllByRecursion (CarriesSeen P.held asked.now.after (touched_of chan (P.slots pool.old self.old.desk.me) self.old)) done.alerts) }
+        ensures carries { IfOk result (λ done. AllByRecursion (CarriesSeen P.held asked.now.after
+            (touched_of chan (P.slots pool.old self.old.desk.me) self.old)) done.alerts) }
         ensures others { OnOk result (SameOthers self.old.desk.me (P.slots pool.old) (P.slots pool.new)) }
         ensures holds { OnOk result (P.exact ≡ true
             → P.holds pool.new self.old.desk.me
             ≡ look_holds asked.now.from chan asked.now.after (P.slots pool.old self.old.desk.me) self.old (P.holds pool.old self.old.desk.me)) }
         ensures other_holds { OnOk result (P.exact ≡ true → SameOthers self.old.desk.me (P.holds pool.old) (P.holds pool.new)) }
-        ensures first { IfOk result (λ done. TellsFirst asked.now.after (touched_of chan (P.slots pool.old self.old.desk.me) self.old) (out_lines done.alerts)) }
+        ensures first { IfOk result (λ done. TellsFirst asked.now.after (touched_of chan (P.slots pool.old self.old.desk.me) self.old)
+            (out_lines done.alerts)) }
         ensures fresh { OnOk result (IsFresh chan self.new) }
     {
         let (mut channel, _) = self.open(pool, &chan, &mut events)?;
@@ -278,13 +281,15 @@ impl Owner {
         ensures owner { OnOk result (self.new ≡ look_after from chan after (P.slots pool.old self.old.desk.me) (with_floor fence self.old)) }
         ensures slots { OnOk result (P.slots pool.new self.old.desk.me
             ≡ look_row from chan after (P.slots pool.old self.old.desk.me) (with_floor fence self.old)) }
-        ensures carries { IfOk result (λ done. AllByRecursion (CarriesSeen P.held after (touched_of chan (P.slots pool.old self.old.desk.me) (with_floor fence self.old))) done.alerts) }
+        ensures carries { IfOk result (λ done. AllByRecursion (CarriesSeen P.held after
+            (touched_of chan (P.slots pool.old self.old.desk.me) (with_floor fence self.old))) done.alerts) }
         ensures others { OnOk result (SameOthers self.old.desk.me (P.slots pool.old) (P.slots pool.new)) }
         ensures holds { OnOk result (P.exact ≡ true
             → P.holds pool.new self.old.desk.me
             ≡ look_holds from chan after (P.slots pool.old self.old.desk.me) (with_floor fence self.old) (P.holds pool.old self.old.desk.me)) }
         ensures other_holds { OnOk result (P.exact ≡ true → SameOthers self.old.desk.me (P.holds pool.old) (P.holds pool.new)) }
-        ensures first { IfOk result (λ done. TellsFirst after (touched_of chan (P.slots pool.old self.old.desk.me) (with_floor fence self.old)) (out_lines done.alerts)) }
+        ensures first { IfOk result (λ done. TellsFirst after (touched_of chan (P.slots pool.old self.old.desk.me) (with_floor fence self.old))
+            (out_lines done.alerts)) }
         ensures fresh { OnOk result (IsFresh chan self.new) }
     {
         let mut events = List::new(self.alloc);

@@ -127,8 +127,11 @@ pub(crate) fn post<P: Slots>(
 ) -> Result<Posted<P::Hold>, NoMemory>
     requires timeout { order.timeout ≤ 1000000000 }
     requires content_type { IsContentType order.content_type }
-    ensures posts { IfOk result (λ p. Posts P.exact from order first.now (bench_from desk.old (P.slots pool.old desk.old.me) channel.old) (P.holds pool.old desk.old.me) p.is_stored events p.done.events.events (out_lines p.done.alerts) (bench_from desk.new (P.slots pool.new desk.old.me) channel.new) (P.holds pool.new desk.old.me)) }
-    ensures carries { IfOk result (λ p. AllCarry P.held desk.old.me (message_of_order (stamp (bench_from desk.old (P.slots pool.old desk.old.me) channel.old)) order desk.old.clock) p.done.alerts) }
+    ensures posts { IfOk result (λ p. Posts P.exact from order first.now (bench_from desk.old (P.slots pool.old desk.old.me) channel.old)
+        (P.holds pool.old desk.old.me) p.is_stored events p.done.events.events (out_lines p.done.alerts)
+        (bench_from desk.new (P.slots pool.new desk.old.me) channel.new) (P.holds pool.new desk.old.me)) }
+    ensures carries { IfOk result (λ p. AllCarry P.held desk.old.me (message_of_order
+        (stamp (bench_from desk.old (P.slots pool.old desk.old.me) channel.old)) order desk.old.clock) p.done.alerts) }
     ensures others { OnOk result (SameOthers desk.old.me (P.slots pool.old) (P.slots pool.new)) }
     ensures other_holds { OnOk result (P.exact ≡ true → SameOthers desk.old.me (P.holds pool.old) (P.holds pool.new)) }
 {
@@ -166,7 +169,8 @@ fn clear<P: Slots>(
         ≡ cleared a.items (bench_from desk.old (P.slots pool.old desk.old.me) channel.old)) }
     ensures each { IfOk result (λ a. map slot_of a.items ≡ (touched (bench_from desk.old (P.slots pool.old desk.old.me) channel.old)).desk.retired) }
     ensures fit { IfOk result (λ a. AnswersFit (touched (bench_from desk.old (P.slots pool.old desk.old.me) channel.old)).row a.items) }
-    ensures told { IfOk result (λ a. P.exact ≡ true → a.items ≡ map (told_answer (P.holds pool.old desk.old.me)) (touched (bench_from desk.old (P.slots pool.old desk.old.me) channel.old)).desk.retired) }
+    ensures told { IfOk result (λ a. P.exact ≡ true → a.items ≡ map (told_answer (P.holds pool.old desk.old.me))
+        (touched (bench_from desk.old (P.slots pool.old desk.old.me) channel.old)).desk.retired) }
     ensures others { OnOk result (SameOthers desk.old.me (P.slots pool.old) (P.slots pool.new)) }
     ensures holds { OnOk result (P.exact ≡ true → P.holds pool.new ≡ P.holds pool.old) }
 {
@@ -193,9 +197,13 @@ pub(crate) fn publish_to<P: Slots>(
 ) -> Result<Done<P::Hold>, NoMemory>
     requires timeout { order.timeout ≤ 1000000000 }
     requires content_type { IsContentType order.content_type }
-    ensures publishes { IfOk result (λ done. Publishes P.exact from order (P.slots pool.old desk.old.me) (record { desk = desk.old; channels = channels.old.entries }) (P.holds pool.old desk.old.me) done.events.events (out_lines done.alerts) (P.slots pool.new desk.old.me) (record { desk = desk.new; channels = channels.new.entries }) (P.holds pool.new desk.old.me)) }
+    ensures publishes { IfOk result (λ done. Publishes P.exact from order (P.slots pool.old desk.old.me)
+        (record { desk = desk.old; channels = channels.old.entries }) (P.holds pool.old desk.old.me) done.events.events (out_lines done.alerts)
+        (P.slots pool.new desk.old.me) (record { desk = desk.new; channels = channels.new.entries }) (P.holds pool.new desk.old.me)) }
     ensures fresh { OnOk result (IsFresh order.chan (record { desk = desk.new; channels = channels.new.entries })) }
-    ensures carries { IfOk result (λ done. AllCarry P.held desk.old.me (message_of_order (stamp (bench_of order.chan (P.slots pool.old desk.old.me) (record { desk = desk.old; channels = channels.old.entries }))) order desk.old.clock) done.alerts) }
+    ensures carries { IfOk result (λ done. AllCarry P.held desk.old.me
+        (message_of_order (stamp (bench_of order.chan (P.slots pool.old desk.old.me)
+        (record { desk = desk.old; channels = channels.old.entries }))) order desk.old.clock) done.alerts) }
     ensures others { OnOk result (SameOthers desk.old.me (P.slots pool.old) (P.slots pool.new)) }
     ensures other_holds { OnOk result (P.exact ≡ true → SameOthers desk.old.me (P.holds pool.old) (P.holds pool.new)) }
 {

@@ -29,8 +29,11 @@ impl Owner {
     ) -> Result<Done<P::Hold>, NoMemory>
         requires timeout { order.timeout ≤ 1000000000 }
         requires content_type { IsContentType order.content_type }
-        ensures publishes { IfOk result (λ done. Publishes P.exact from order (P.slots pool.old self.old.desk.me) self.old (P.holds pool.old self.old.desk.me) done.events.events (out_lines done.alerts) (P.slots pool.new self.old.desk.me) self.new (P.holds pool.new self.old.desk.me)) }
-        ensures carries { IfOk result (λ done. AllCarry P.held self.old.desk.me (message_of_order (stamp (bench_of order.chan (P.slots pool.old self.old.desk.me) self.old)) order self.old.desk.clock) done.alerts) }
+        ensures publishes { IfOk result (λ done. Publishes P.exact from order (P.slots pool.old self.old.desk.me) self.old
+            (P.holds pool.old self.old.desk.me) done.events.events (out_lines done.alerts) (P.slots pool.new self.old.desk.me) self.new
+            (P.holds pool.new self.old.desk.me)) }
+        ensures carries { IfOk result (λ done. AllCarry P.held self.old.desk.me
+            (message_of_order (stamp (bench_of order.chan (P.slots pool.old self.old.desk.me) self.old)) order self.old.desk.clock) done.alerts) }
         ensures others { OnOk result (SameOthers self.old.desk.me (P.slots pool.old) (P.slots pool.new)) }
         ensures other_holds { OnOk result (P.exact ≡ true → SameOthers self.old.desk.me (P.holds pool.old) (P.holds pool.new)) }
 

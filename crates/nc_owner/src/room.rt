@@ -52,7 +52,8 @@ pub(crate) fn count_usage<P: Slots>(
         ≡ usage_of most (record { retired = first.now; leaving = r.0.items; left = [] }) (bench_from desk.now (P.slots pool.old desk.now.me) channel.now)) }
     ensures each { IfOk result (λ r. map slot_of r.0.items ≡ slots_of (leaving most (bench_from desk.now (P.slots pool.old desk.now.me) channel.now))) }
     ensures fit { IfOk result (λ r. AnswersFit (P.slots pool.old desk.now.me) r.0.items) }
-    ensures told { IfOk result (λ r. P.exact ≡ true → r.0.items ≡ map (told_answer (P.holds pool.old desk.now.me)) (slots_of (leaving most (bench_from desk.now (P.slots pool.old desk.now.me) channel.now)))) }
+    ensures told { IfOk result (λ r. P.exact ≡ true → r.0.items ≡ map (told_answer (P.holds pool.old desk.now.me))
+        (slots_of (leaving most (bench_from desk.now (P.slots pool.old desk.now.me) channel.now)))) }
     ensures row { IfOk result (λ r. P.slots pool.new desk.now.me ≡ polled_all r.0.items (P.slots pool.old desk.now.me)) }
     ensures others { OnOk result (SameOthers desk.now.me (P.slots pool.old) (P.slots pool.new)) }
     ensures holds { OnOk result (P.exact ≡ true → P.holds pool.new ≡ P.holds pool.old) }
@@ -84,7 +85,8 @@ pub(crate) fn make_room<P: Slots>(
     ensures each { IfOk result (λ a. map slot_of a.items
         ≡ ascending (slots_of (leaving most (bench_from desk.old (P.slots pool.old desk.old.me) channel.old)))) }
     ensures fit { IfOk result (λ a. AnswersFit (left_slots most (bench_from desk.old (P.slots pool.old desk.old.me) channel.old)) a.items) }
-    ensures told { IfOk result (λ a. P.exact ≡ true → a.items ≡ map (told_answer (P.holds pool.old desk.old.me)) (ascending (slots_of (leaving most (bench_from desk.old (P.slots pool.old desk.old.me) channel.old))))) }
+    ensures told { IfOk result (λ a. P.exact ≡ true → a.items ≡ map (told_answer (P.holds pool.old desk.old.me))
+        (ascending (slots_of (leaving most (bench_from desk.old (P.slots pool.old desk.old.me) channel.old))))) }
     ensures others { OnOk result (SameOthers desk.old.me (P.slots pool.old) (P.slots pool.new)) }
     ensures holds { OnOk result (P.exact ≡ true → P.holds pool.new ≡ P.holds pool.old) }
 {

@@ -71,7 +71,8 @@ fn keep_or_retire<P: Slots>(
     requires { IsPast news.now.id channel.old.backlog.last }
     ensures desk { OnOk result (desk.new ≡ kept_desk is_kept news.now.slot desk.old) }
     ensures row { OnOk result (P.slots pool.new desk.old.me ≡ kept_row is_kept news.now.slot (P.slots pool.old desk.old.me)) }
-    ensures channel { OnOk result (channel.new ≡ kept_backlog is_kept (record { id = news.now.id; slot = news.now.slot; expires = news.now.expires; grants = length channel.old.marks }) channel.old) }
+    ensures channel { OnOk result (channel.new ≡ kept_backlog is_kept
+        (record { id = news.now.id; slot = news.now.slot; expires = news.now.expires; grants = length channel.old.marks }) channel.old) }
     ensures others { OnOk result (SameOthers desk.old.me (P.slots pool.old) (P.slots pool.new)) }
     ensures holds { OnOk result (P.exact ≡ true → P.holds pool.new ≡ P.holds pool.old) }
 {
@@ -149,11 +150,14 @@ pub(crate) fn store<P: Slots>(
     requires timeout { order.timeout ≤ 1000000000 }
     requires content_type { IsContentType order.content_type }
     requires id { id ≡ stamp (bench_from desk.old (P.slots pool.old desk.old.me) channel.old) }
-    ensures stored { IfOk result (λ r. IsStored P.held P.exact from desk.old.me order r.1.items (bench_from desk.old (P.slots pool.old desk.old.me) channel.old) (P.slots pool.old) (P.slots pool.new) (P.holds pool.old) (P.holds pool.new) events r.0.events.events r.0.alerts (bench_from desk.new (P.slots pool.new desk.old.me) channel.new)) }
+    ensures stored { IfOk result (λ r. IsStored P.held P.exact from desk.old.me order r.1.items
+        (bench_from desk.old (P.slots pool.old desk.old.me) channel.old) (P.slots pool.old) (P.slots pool.new) (P.holds pool.old)
+        (P.holds pool.new) events r.0.events.events r.0.alerts (bench_from desk.new (P.slots pool.new desk.old.me) channel.new)) }
     ensures each { IfOk result (λ r. map slot_of r.1.items
         ≡ ascending (slots_of (leaving order.length (bench_from desk.old (P.slots pool.old desk.old.me) channel.old)))) }
     ensures fit { IfOk result (λ r. AnswersFit (left_slots order.length (bench_from desk.old (P.slots pool.old desk.old.me) channel.old)) r.1.items) }
-    ensures told { IfOk result (λ r. P.exact ≡ true → r.1.items ≡ map (told_answer (P.holds pool.old desk.old.me)) (ascending (slots_of (leaving order.length (bench_from desk.old (P.slots pool.old desk.old.me) channel.old))))) }
+    ensures told { IfOk result (λ r. P.exact ≡ true → r.1.items ≡ map (told_answer (P.holds pool.old desk.old.me))
+        (ascending (slots_of (leaving order.length (bench_from desk.old (P.slots pool.old desk.old.me) channel.old))))) }
 {
     let mut events = events;
     let mut alerts = List::new(alloc);

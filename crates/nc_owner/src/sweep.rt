@@ -52,7 +52,9 @@ impl Owner {
 
     /// Polls all retired slots in ascending order: those that nobody holds are unused from then on.
     pub fn poll_retired<P: Slots>(&mut self, pool: &mut P) -> Result<EventList, NoMemory>
-        ensures polled { IfOk result (λ list. (answers : Items AnswerAt) × IsPolled P.exact (P.holds pool.old self.old.desk.me) answers (P.slots pool.old self.old.desk.me) self.old list.events (P.slots pool.new self.old.desk.me) self.new) }
+        ensures polled { IfOk result (λ list. (answers : Items AnswerAt)
+            × IsPolled P.exact (P.holds pool.old self.old.desk.me) answers (P.slots pool.old self.old.desk.me) self.old list.events
+            (P.slots pool.new self.old.desk.me) self.new) }
         ensures others { OnOk result (SameOthers self.old.desk.me (P.slots pool.old) (P.slots pool.new)) }
         ensures holds { OnOk result (P.exact ≡ true → P.holds pool.new ≡ P.holds pool.old) }
         ensures retired { IfOk result (λ list. FreesOnlyRetired self.old.desk.retired list.events) }

@@ -66,6 +66,7 @@ PublishAnswersNew = (next : ℕ → ℕ) (from : ℕ) (o : Order) (polls : Polls
 
 -- a removal of a channel keeps it
 abbrev pub RemovalAnswersNew : Type 0
-RemovalAnswersNew = (h : List Event) (v : ℕ) (next : ℕ → ℕ) (c : List ℕ) (last : Id) (cause : RemovedCause) (lefts : List Event) (alerts : List OutLine)
+RemovalAnswersNew =
+    (h : List Event) (v : ℕ) (next : ℕ → ℕ) (c : List ℕ) (last : Id) (cause : RemovedCause) (lefts : List Event) (alerts : List OutLine)
     → AllByRecursion IsLeft lefts → AllByRecursion (λ a. IsOfRemoval c a.line) alerts → Along AnswersNew h
     → Along AnswersNew (removal_onto v next c last cause lefts alerts h)

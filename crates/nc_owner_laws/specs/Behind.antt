@@ -74,5 +74,6 @@ pub record AnswersPlace (number floor : ℕ) (found : Option Id) (look_number lo
   pub nothing : found ≡ None
 
 abbrev pub AnswerTellsLook : Type 0
-AnswerTellsLook = (first : ℕ) (h : List Event) → InOrder first h → (me w : ℕ) (c : List ℕ) (q : ℕ) (look : LookPlace me w c q h) (v n number floor : ℕ) (found : Option Id) (g slot : Option ℕ) (newer older : List Event)
+AnswerTellsLook = (first : ℕ) (h : List Event) → InOrder first h → (me w : ℕ) (c : List ℕ) (q : ℕ) (look : LookPlace me w c q h)
+    (v n number floor : ℕ) (found : Option Id) (g slot : Option ℕ) (newer older : List Event)
     → h ≡ newer ++ Made v w n (LookAnswer number q floor found g slot) ∷ older → AnswersPlace number floor found look.number look.floor

@@ -20,4 +20,5 @@ RaiseKeeps = (me workers slots first fence : ℕ) (row : List (Slot Message)) (h
 abbrev pub EdgeKeeps : Type 0
 EdgeKeeps = (me workers slots first from number k n : ℕ) (c : List ℕ) (row : List (Slot Message)) (h : List Event) (s : OwnerAt)
     → Keeps me workers slots first row h s
-    → Keeps me workers slots first row (Made me from n (EdgeAnswer number s.desk.looks s.desk.floor (last_in c s)) ∷ Edged me s.desk.looks from number k c s.desk.floor (last_in c s) ∷ h) (edged s)
+    → Keeps me workers slots first row (Made me from n (EdgeAnswer number s.desk.looks s.desk.floor (last_in c s))
+    ∷ Edged me s.desk.looks from number k c s.desk.floor (last_in c s) ∷ h) (edged s)

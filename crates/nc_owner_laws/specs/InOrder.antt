@@ -62,7 +62,8 @@ DrawsNext first h _ = Unit {0}
 -- a history has a look of an owner: its number, the worker, the worker's number, the floor and what was found
 abbrev pub HasLook : (v q u number floor : ℕ) → Option Id → List Event → Type 0
 HasLook v q u number floor found [] = ⊥
-HasLook v q u number floor found (Looked w p from n c after f past ∷ h) = ((w ≡ v) × (p ≡ q) × (from ≡ u) × (n ≡ number) × (f ≡ floor) × (past ≡ found)) ⊎ HasLook v q u number floor found h
+HasLook v q u number floor found (Looked w p from n c after f past ∷ h) =
+    ((w ≡ v) × (p ≡ q) × (from ≡ u) × (n ≡ number) × (f ≡ floor) × (past ≡ found)) ⊎ HasLook v q u number floor found h
 HasLook v q u number floor found (e ∷ h) = HasLook v q u number floor found h
 
 -- a history has an edge of an owner: its number, the worker, the worker's number, the floor and the last id
@@ -106,11 +107,13 @@ OthersInOrder = (me workers slots first : ℕ) (next : ℕ → ℕ) (row : List 
     → Stands me workers slots first row h s → InOrder first h → StepsInOrder first next row h s
 
 abbrev pub PublishInOrder : Type 0
-PublishInOrder = (me workers slots first : ℕ) (next : ℕ → ℕ) (from : ℕ) (o : Order) (polls : Polls) (row : List (Slot Message)) (h : List Event) (s : OwnerAt) → Stands me workers slots first row h s → InOrder first h
+PublishInOrder = (me workers slots first : ℕ) (next : ℕ → ℕ) (from : ℕ) (o : Order) (polls : Polls) (row : List (Slot Message))
+    (h : List Event) (s : OwnerAt) → Stands me workers slots first row h s → InOrder first h
     → InOrder first (onto (weave s.desk.me next (publish_events from o polls row s) (publish_alerts from o polls row s)) h)
 
 -- a removal of a channel keeps it
 abbrev pub RemovalInOrder : Type 0
-RemovalInOrder = (first : ℕ) (h : List Event) (v : ℕ) (next : ℕ → ℕ) (c : List ℕ) (last : Id) (cause : RemovedCause) (lefts : List Event) (alerts : List OutLine)
+RemovalInOrder = (first : ℕ) (h : List Event) (v : ℕ) (next : ℕ → ℕ) (c : List ℕ) (last : Id) (cause : RemovedCause) (lefts : List Event)
+    (alerts : List OutLine)
     → AllByRecursion IsLeft lefts → AllByRecursion (λ a. IsOfRemoval c a.line) alerts → InOrder first h
     → InOrder first (removal_onto v next c last cause lefts alerts h)

@@ -47,5 +47,6 @@ OthersLeave = (me workers slots first : ℕ) (next : ℕ → ℕ) (row : List (S
     → Stands me workers slots first row h s → IsLeavingRule workers h → StepsLeave workers next row h s
 
 abbrev pub PublishLeaves : Type 0
-PublishLeaves = (me workers slots first : ℕ) (next : ℕ → ℕ) (from : ℕ) (o : Order) (polls : Polls) (row : List (Slot Message)) (h : List Event) (s : OwnerAt) → owner_of workers o.chan ≡ s.desk.me → Stands me workers slots first row h s → IsLeavingRule workers h
+PublishLeaves = (me workers slots first : ℕ) (next : ℕ → ℕ) (from : ℕ) (o : Order) (polls : Polls) (row : List (Slot Message))
+    (h : List Event) (s : OwnerAt) → owner_of workers o.chan ≡ s.desk.me → Stands me workers slots first row h s → IsLeavingRule workers h
     → IsLeavingRule workers (onto (weave s.desk.me next (publish_events from o polls row s) (publish_alerts from o polls row s)) h)

@@ -58,8 +58,10 @@ module _ (me workers slots first : ℕ) (next : ℕ → ℕ) (row : List (Slot M
         → Stands me workers slots first (touched_row c row s) (onto (weave s.desk.me next (join_events m c row s) []) h) (join_after m c row s)
     pub part : (m : Member) (c : List ℕ)
         → Stands me workers slots first (touched_row c row s) (onto (weave s.desk.me next (part_events m c row s) []) h) (part_after m c row s)
-    pub info : (from r : ℕ) (c : List ℕ) → Stands me workers slots first (touched_row c row s) (onto (weave s.desk.me next (touch_events_of c row s) (info_alerts from r c row s)) h) (touch_after c row s)
-    pub look : (from number : ℕ) (c : List ℕ) (id : Id) → Stands me workers slots first (look_row from c id row s) (onto (weave s.desk.me next (look_events from number c id row s) (look_alerts from number c id row s)) h) (look_after from c id row s)
+    pub info : (from r : ℕ) (c : List ℕ) → Stands me workers slots first (touched_row c row s)
+        (onto (weave s.desk.me next (touch_events_of c row s) (info_alerts from r c row s)) h) (touch_after c row s)
+    pub look : (from number : ℕ) (c : List ℕ) (id : Id) → Stands me workers slots first (look_row from c id row s)
+        (onto (weave s.desk.me next (look_events from number c id row s) (look_alerts from number c id row s)) h) (look_after from c id row s)
     pub polled : (answers : List PollAnswer) → map slot_of answers ≡ s.desk.retired
         → Stands me workers slots first (polled_row answers row) (onto (weave s.desk.me next (polled_events answers s) []) h) (polled_after answers s)
     pub clock : (now : ℕ) → Stands me workers slots first row (Clock s.desk.me now ∷ h) (with_clock now s)
@@ -69,8 +71,10 @@ OthersStand = (me workers slots first : ℕ) (next : ℕ → ℕ) (row : List (S
     → Stands me workers slots first row h s → StepsStand me workers slots first next row h s
 
 abbrev pub PublishStands : Type 0
-PublishStands = (me workers slots first : ℕ) (next : ℕ → ℕ) (exact : Bool) (counts : List ℕ) (from : ℕ) (o : Order) (polls : Polls) (row : List (Slot Message)) (h : List Event) (s : OwnerAt) → owner_of workers o.chan ≡ me → PublishPolls exact counts o row s polls
-    → Stands me workers slots first row h s → Stands me workers slots first (publish_row o polls row s) (onto (weave s.desk.me next (publish_events from o polls row s) (publish_alerts from o polls row s)) h) (publish_after o polls row s)
+PublishStands = (me workers slots first : ℕ) (next : ℕ → ℕ) (exact : Bool) (counts : List ℕ) (from : ℕ) (o : Order) (polls : Polls)
+    (row : List (Slot Message)) (h : List Event) (s : OwnerAt) → owner_of workers o.chan ≡ me → PublishPolls exact counts o row s polls
+    → Stands me workers slots first row h s → Stands me workers slots first (publish_row o polls row s)
+    (onto (weave s.desk.me next (publish_events from o polls row s) (publish_alerts from o polls row s)) h) (publish_after o polls row s)
 
 -- a sweep of one channel keeps that an owner stands for its history
 abbrev pub SweepStands : Type 0

@@ -65,7 +65,8 @@ new_entry id slot expires = record { id = id; slot = slot; expires = expires; gr
 
 -- the channel of a name after an event, if it exists then
 abbrev pub channel_with : List ℕ → Id → Option Channel → Event → Option Channel
-channel_with c spent o (Stored w name id slot len exp kept members from r ct body) = if bytes_eq name c then Some (kept_channel kept (new_entry id slot exp) (unwrap_or o (made spent))) else o
+channel_with c spent o (Stored w name id slot len exp kept members from r ct body) =
+    if bytes_eq name c then Some (kept_channel kept (new_entry id slot exp) (unwrap_or o (made spent))) else o
 channel_with c spent o (Left w name id slot cause) = if bytes_eq name c then option_map (left_channel id) o else o
 channel_with c spent o (Looked w q from number name after floor past) = if bytes_eq name c then Some (with_look from past (unwrap_or o (made spent))) else o
 channel_with c spent o (Joined w name from k) = if bytes_eq name c then Some (joined_channel (record { from = from; k = k }) (unwrap_or o (made spent))) else o

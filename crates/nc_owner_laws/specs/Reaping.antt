@@ -32,12 +32,15 @@ next_behind next [] = next
 next_behind next (x ∷ steps) = next_behind (numbered_by next x.alerts) steps
 
 -- a reap keeps it where the owner's channels are its own, and so are its events
-pub record ReapKept (me workers slots first : ℕ) (next : ℕ → ℕ) (row : List (Slot Message)) (h : List Event) (steps : List Step) (s : OwnerAt) : Type 0 where
+pub record ReapKept (me workers slots first : ℕ) (next : ℕ → ℕ) (row : List (Slot Message)) (h : List Event) (steps : List Step)
+    (s : OwnerAt) : Type 0 where
   pub keeps : Keeps me workers slots first row (onto (steps_woven me next steps) h) s
   pub of_owner : AreOfOwner me (events_of steps)
 
 abbrev pub ReapKeeps : Type 0
-ReapKeeps = (me workers slots first : ℕ) (next : ℕ → ℕ) (exact : Bool) (counts : List ℕ) (answers : List PollAnswer) (row new_row : List (Slot Message)) (h : List Event) (steps : List Step) (s new : OwnerAt) → OwnsChannels workers me s → IsReaped exact counts answers row s steps new_row new
+ReapKeeps = (me workers slots first : ℕ) (next : ℕ → ℕ) (exact : Bool) (counts : List ℕ) (answers : List PollAnswer)
+    (row new_row : List (Slot Message)) (h : List Event) (steps : List Step) (s new : OwnerAt) → OwnsChannels workers me s
+    → IsReaped exact counts answers row s steps new_row new
     → Keeps me workers slots first row h s → ReapKept me workers slots first next new_row h steps new
 
 -- and no slot has more holds than it can have after it, where their numbers are told

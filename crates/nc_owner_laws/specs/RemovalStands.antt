@@ -16,7 +16,9 @@ use Rattle.nc_owner_laws.specs.OwnerStanding.{Stands}
 use Rattle.nc_owner_laws.specs.Removal.{IsOfRemoval, TellsMarked, removal_onto}
 
 abbrev pub RemovalStands : Type 0
-RemovalStands = (me workers slots first : ℕ) (next : ℕ → ℕ) (c : List ℕ) (last : Id) (left : LeftCause) (cause : RemovedCause) (alerts : List OutLine) (row : List (Slot Message)) (h : List Event) (s : OwnerAt)
+RemovalStands = (me workers slots first : ℕ) (next : ℕ → ℕ) (c : List ℕ) (last : Id) (left : LeftCause) (cause : RemovedCause)
+    (alerts : List OutLine) (row : List (Slot Message)) (h : List Event) (s : OwnerAt)
     → owner_of workers c ≡ me → last ≡ last_of c h → AllByRecursion (λ a. IsOfRemoval c a.line) alerts → TellsMarked c h alerts
     → Stands me workers slots first row h s
-    → Stands me workers slots first (removed_row c row s) (removal_onto s.desk.me next c last cause (removal_lefts c left s) alerts h) (removed_after c last s)
+    → Stands me workers slots first (removed_row c row s) (removal_onto s.desk.me next c last cause (removal_lefts c left s) alerts h)
+    (removed_after c last s)

@@ -26,14 +26,16 @@ removed_onto next c cause h s = onto (weave s.desk.me next (removal_events c cau
 
 -- an owner stands for its history when a channel of its own was removed
 abbrev pub RemoveKeeps : Type 0
-RemoveKeeps = (me workers slots first : ℕ) (next : ℕ → ℕ) (c : List ℕ) (cause : RemovedCause) (row : List (Slot Message)) (h : List Event) (s : OwnerAt) → owner_of workers c ≡ me → Keeps me workers slots first row h s
+RemoveKeeps = (me workers slots first : ℕ) (next : ℕ → ℕ) (c : List ℕ) (cause : RemovedCause) (row : List (Slot Message)) (h : List Event)
+    (s : OwnerAt) → owner_of workers c ≡ me → Keeps me workers slots first row h s
     → Keeps me workers slots first (removed_row c row s) (removed_onto next c cause h s) (removed_after c (last_in c s) s)
 
 -- and when a deletion was done, of a channel that is there or isn't
 abbrev pub DeleteKeeps : Type 0
 DeleteKeeps = (me workers slots first from r : ℕ) (next : ℕ → ℕ) (c : List ℕ) (row : List (Slot Message)) (h : List Event) (s : OwnerAt)
     → owner_of workers c ≡ me → Keeps me workers slots first row h s
-    → Keeps me workers slots first (delete_row c row s) (onto (weave s.desk.me next (delete_events c row s) (delete_alerts from r c row s)) h) (delete_after c row s)
+    → Keeps me workers slots first (delete_row c row s) (onto (weave s.desk.me next (delete_events c row s) (delete_alerts from r c row s)) h)
+    (delete_after c row s)
 
 -- and when a channel was swept
 abbrev pub SweepKeeps : Type 0

@@ -43,6 +43,7 @@ OthersKeepSlots = (me workers slots first : ℕ) (next : ℕ → ℕ) (row : Lis
     → Stands me workers slots first row h s → AreStaged row h → Along (OwnersSlots slots) h → StepsKeepSlots slots next row h s
 
 abbrev pub PublishKeepsSlots : Type 0
-PublishKeepsSlots = (me workers slots first : ℕ) (next : ℕ → ℕ) (exact : Bool) (counts : List ℕ) (from : ℕ) (o : Order) (polls : Polls) (row : List (Slot Message)) (h : List Event) (s : OwnerAt) → PublishPolls exact counts o row s polls
+PublishKeepsSlots = (me workers slots first : ℕ) (next : ℕ → ℕ) (exact : Bool) (counts : List ℕ) (from : ℕ) (o : Order) (polls : Polls)
+    (row : List (Slot Message)) (h : List Event) (s : OwnerAt) → PublishPolls exact counts o row s polls
     → Stands me workers slots first row h s → AreStaged row h → Along (OwnersSlots slots) h
     → Along (OwnersSlots slots) (onto (weave s.desk.me next (publish_events from o polls row s) (publish_alerts from o polls row s)) h)

@@ -53,5 +53,6 @@ OthersStaged = (next : ℕ → ℕ) (row : List (Slot Message)) (h : List Event)
     → StepsStaged next row h s
 
 abbrev pub PublishStaged : Type 0
-PublishStaged = (next : ℕ → ℕ) (exact : Bool) (counts : List ℕ) (from : ℕ) (o : Order) (polls : Polls) (row : List (Slot Message)) (h : List Event) (s : OwnerAt) → PublishPolls exact counts o row s polls → OwnerFits row s → AreStaged row h
+PublishStaged = (next : ℕ → ℕ) (exact : Bool) (counts : List ℕ) (from : ℕ) (o : Order) (polls : Polls) (row : List (Slot Message))
+    (h : List Event) (s : OwnerAt) → PublishPolls exact counts o row s polls → OwnerFits row s → AreStaged row h
     → AreStaged (publish_row o polls row s) (onto (weave s.desk.me next (publish_events from o polls row s) (publish_alerts from o polls row s)) h)

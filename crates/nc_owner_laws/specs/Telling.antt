@@ -50,5 +50,6 @@ ClockTells = (first : Desk) (h : List Event) (now : ℕ) (s : OwnerAt) → Histo
     → HistoryTells first (Clock s.desk.me now ∷ h) (with_clock now s)
 
 abbrev pub PublishTells : Type 0
-PublishTells = (first : Desk) (h : List Event) (exact : Bool) (counts : List ℕ) (from : ℕ) (o : Order) (row : List (Slot Message)) (s : OwnerAt) (polls : Polls) → PublishPolls exact counts o row s polls → OwnerFits row s → HistoryTells first h s
+PublishTells = (first : Desk) (h : List Event) (exact : Bool) (counts : List ℕ) (from : ℕ) (o : Order) (row : List (Slot Message)) (s : OwnerAt)
+    (polls : Polls) → PublishPolls exact counts o row s polls → OwnerFits row s → HistoryTells first h s
     → HistoryTells first (onto (publish_events from o polls row s) h) (publish_after o polls row s)

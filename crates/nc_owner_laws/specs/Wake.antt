@@ -78,7 +78,8 @@ LookWakes = (h : List Event) (next : ℕ → ℕ) (from number : ℕ) (c : List 
     → Wakes (onto (weave s.desk.me next (look_events from number c id row s) (look_alerts from number c id row s)) h)
 
 abbrev pub PublishWakes : Type 0
-PublishWakes = (me workers slots first : ℕ) (h : List Event) (next : ℕ → ℕ) (from : ℕ) (o : Order) (row : List (Slot Message)) (s : OwnerAt) (polls : Polls) → HistoryTells (new_desk me workers slots first) h s → Wakes h
+PublishWakes = (me workers slots first : ℕ) (h : List Event) (next : ℕ → ℕ) (from : ℕ) (o : Order) (row : List (Slot Message)) (s : OwnerAt)
+    (polls : Polls) → HistoryTells (new_desk me workers slots first) h s → Wakes h
     → Wakes (onto (weave s.desk.me next (publish_events from o polls row s) (publish_alerts from o polls row s)) h)
 
 -- the other steps wake nobody

@@ -58,7 +58,8 @@ abbrev pub polled_step : ℕ → List PollAnswer → Step
 polled_step me answers = step (freed_events me answers) []
 
 -- a reap, by the answers of the polls, which fit the slots once all channels were swept
-pub record IsReaped (exact : Bool) (counts : List ℕ) (answers : List PollAnswer) (row : List (Slot Message)) (s : OwnerAt) (steps : List Step) (new_row : List (Slot Message)) (new : OwnerAt) : Type 0 where
+pub record IsReaped (exact : Bool) (counts : List ℕ) (answers : List PollAnswer) (row : List (Slot Message)) (s : OwnerAt) (steps : List Step)
+    (new_row : List (Slot Message)) (new : OwnerAt) : Type 0 where
   pub polls : PollsOf exact counts (swept_all row s).owner.desk.retired answers
   pub fit : AnswersFit (swept_all row s).row answers
   pub happened : steps ≡ (swept_all row s).steps ++ polled_step s.desk.me answers ∷ []

@@ -39,7 +39,9 @@ pub fn reap<P: Slots>(
     owner: &mut Owner,
     pool: &mut P,
 ) -> Result<List<Done<P::Hold>>, NoMemory>
-    ensures reaped { IfOk result (λ steps. (answers : Items PollAnswer) × IsReaped P.exact (P.holds pool.old owner.old.desk.me) answers (P.slots pool.old owner.old.desk.me) owner.old (steps_of steps) (P.slots pool.new owner.old.desk.me) owner.new) }
+    ensures reaped { IfOk result (λ steps. (answers : Items PollAnswer)
+        × IsReaped P.exact (P.holds pool.old owner.old.desk.me) answers (P.slots pool.old owner.old.desk.me) owner.old (steps_of steps)
+        (P.slots pool.new owner.old.desk.me) owner.new) }
     ensures others { OnOk result (SameOthers owner.old.desk.me (P.slots pool.old) (P.slots pool.new)) }
     ensures holds { OnOk result (P.exact ≡ true → P.holds pool.new ≡ P.holds pool.old) }
     ensures retired { IfOk result (λ steps. FreesOnlyRetired owner.old.desk.retired (events_of (steps_of steps))) }

@@ -149,7 +149,8 @@ abbrev pub CutsOffSome : ℕ → List ℕ → List ℕ → List ℕ → Type 0
 CutsOffSome first script old new = CutsOffText first script old new ⊎ (CutsOffFault first script old new ⊎ CutsOffMisconfigured script old new)
 
 -- some text, which is the whole input, is in this relation with what was written
-pub record OfInput (P : List ℕ → List ℕ → List ℕ → Type 0) (left rest : Option (List ℕ)) (before behind : List (List ℕ)) (old new : List ℕ) : Type 0 where
+pub record OfInput (P : List ℕ → List ℕ → List ℕ → Type 0) (left rest : Option (List ℕ)) (before behind : List (List ℕ))
+    (old new : List ℕ) : Type 0 where
   pub script : List ℕ
   pub read : ReadsAll script left rest before behind
   pub written : P script old new

@@ -23,6 +23,7 @@ answered q floor None = Nothing q floor
 answered q floor (Some id) = Found q id
 
 abbrev pub AnswerRests : Type 0
-AnswerRests = (workers w : ℕ) (c : List ℕ) (after : Id) (number q floor : ℕ) (found : Option Id) (g slot : Option ℕ) (n : ℕ) (kind : AlertKind) (h : List Event) → let o = owner_of workers c in
+AnswerRests = (workers w : ℕ) (c : List ℕ) (after : Id) (number q floor : ℕ) (found : Option Id) (g slot : Option ℕ) (n : ℕ)
+    (kind : AlertKind) (h : List Event) → let o = owner_of workers c in
     IsNext o w (LookAnswer number q floor found g slot) h → HasLook o q w number floor found (own o h) → IsAsked w number c after (own o h)
     → RestsAt workers w c after (answered q floor found) (Took w o n kind ∷ h)

@@ -19,12 +19,14 @@ use Rattle.nc_rests.specs.Owners.{Owners}
 use Rattle.nc_rests.specs.Places.{PlaceHolds}
 
 -- it comes from the owner of the place's channel, and the place learns from it
-pub record LearnsFrom (workers w : ℕ) (c : List ℕ) (after : Id) (from q floor n : ℕ) (kind : AlertKind) (news : Option News) (h : List Event) : Type 0 where
+pub record LearnsFrom (workers w : ℕ) (c : List ℕ) (after : Id) (from q floor n : ℕ) (kind : AlertKind) (news : Option News)
+    (h : List Event) : Type 0 where
   pub owner : from ≡ owner_of workers c
   pub holds : PlaceHolds workers w c after (learned after (record { q = q; floor = floor }) news) (Took w from n kind ∷ h)
 
 abbrev pub PlaceAnswered : Type 0
-PlaceAnswered = (workers w : ℕ) (c : List ℕ) (after : Id) (number : ℕ) (earlier : Option Quiet) (from q floor : ℕ) (news : Option News) (g slot : Option ℕ) (n : ℕ) (kind : AlertKind) (h : List Event)
+PlaceAnswered = (workers w : ℕ) (c : List ℕ) (after : Id) (number : ℕ) (earlier : Option Quiet) (from q floor : ℕ) (news : Option News)
+    (g slot : Option ℕ) (n : ℕ) (kind : AlertKind) (h : List Event)
     → Owners workers h → ((o : ℕ) → Along AnswersAt (own o h)) → AsksWell w h
     → IsNext from w (LookAnswer number q floor (option_map (λ (x : News). x.id) news) g slot) h
     → PlaceHolds workers w c after (places.Asked number earlier) h → LearnsFrom workers w c after from q floor n kind news h

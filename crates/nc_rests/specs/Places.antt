@@ -60,7 +60,8 @@ PlaceAsks = (workers w to number : ℕ) (c : List ℕ) (after : Id) (fence n : �
 
 -- the answer to its look
 abbrev pub PlaceLearns : Type 0
-PlaceLearns = (workers w : ℕ) (c : List ℕ) (after : Id) (number q floor : ℕ) (news : Option News) (g slot : Option ℕ) (n : ℕ) (kind : AlertKind) (h : List Event) → let o = owner_of workers c in
+PlaceLearns = (workers w : ℕ) (c : List ℕ) (after : Id) (number q floor : ℕ) (news : Option News) (g slot : Option ℕ) (n : ℕ)
+    (kind : AlertKind) (h : List Event) → let o = owner_of workers c in
     let found = option_map (λ (x : News). x.id) news in
     IsNext o w (LookAnswer number q floor found g slot) h → HasLook o q w number floor found (own o h) → IsAsked w number c after (own o h)
     → Along LooksAt (own o h)
@@ -68,7 +69,8 @@ PlaceLearns = (workers w : ℕ) (c : List ℕ) (after : Id) (number q floor : �
 
 -- a message of its channel
 abbrev pub PlaceNotices : Type 0
-PlaceNotices = (workers w : ℕ) (c : List ℕ) (after : Id) (place : Place) (news : News) (g slot : ℕ) (n : ℕ) (kind : AlertKind) (h : List Event) → let o = owner_of workers c in
+PlaceNotices = (workers w : ℕ) (c : List ℕ) (after : Id) (place : Place) (news : News) (g slot : ℕ) (n : ℕ) (kind : AlertKind)
+    (h : List Event) → let o = owner_of workers c in
     OwnerTells o (own o h) → IsNext o w (Notice c news.id g slot) h → PlaceHolds workers w c after place h
     → HeardHolds workers w c after place (notice_says news (is_past news.id after) place) (Took w o n kind ∷ h)
 

@@ -29,7 +29,8 @@ pub record OwnerTells (o : ℕ) (l : List Event) : Type 0 where
 
 -- the first notice of its channel turns a place where nothing was found into one that found its message, where that is past the cursor
 abbrev pub NoticeFinds : Type 0
-NoticeFinds = (workers w : ℕ) (c : List ℕ) (after : Id) (q floor : ℕ) (id : Id) (g slot : ℕ) (n : ℕ) (kind : AlertKind) (h : List Event) → let o = owner_of workers c in
+NoticeFinds = (workers w : ℕ) (c : List ℕ) (after : Id) (q floor : ℕ) (id : Id) (g slot : ℕ) (n : ℕ) (kind : AlertKind) (h : List Event)
+    → let o = owner_of workers c in
     OwnerTells o (own o h) → IsNext o w (Notice c id g slot) h → IsPast id after
     → RestsAt workers w c after (Nothing q floor) h → RestsAt workers w c after (Found q id) (Took w o n kind ∷ h)
 

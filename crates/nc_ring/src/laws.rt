@@ -10,7 +10,8 @@ ghost use Rattle.nc_ring.specs.declared.view.Log.{Log as LogAt};
 
 /// What was taken, and behind it what the ring holds, is what was pushed.
 pub fn taken_is_prefix<H>()
-    ensures { (items : List (PacketAt H)) (views : List (LogAt H)) (i j : ℕ) (tx rx : LogAt H) → IsInOrder items views → get_elem? views i ≡ some tx → tx.pushes ≡ true → get_elem? views j ≡ some rx → rx.takes ≡ true → tx.sent ≡ rx.got ++ items }
+    ensures { (items : List (PacketAt H)) (views : List (LogAt H)) (i j : ℕ) (tx rx : LogAt H) → IsInOrder items views
+        → get_elem? views i ≡ some tx → tx.pushes ≡ true → get_elem? views j ≡ some rx → rx.takes ≡ true → tx.sent ≡ rx.got ++ items }
 {}
 
 /// A packet that carries no hold may be pushed behind any others.

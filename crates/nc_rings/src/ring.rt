@@ -12,6 +12,7 @@ use std::marker::Model;
 pub const RING_SIZE: usize = 256;
 
 /// The packets from one worker to another, the oldest first, which contracts see as their list.
+/// After want of memory it is only to be dropped.
 #[derive(Drop)]
 pub struct Ring<H> {
     packets: VecDeque<Packet<H>>,

@@ -9,6 +9,7 @@ use std::alloc::Global;
 use std::marker::Model;
 
 /// The rings from one worker to the others. Each number below 256 is a receiver; one to whom nothing was carried yet has an empty ring.
+/// After want of memory they are only to be dropped.
 #[derive(Drop)]
 pub struct RingRow<H> {
     rings: Vec<Ring<H>>,

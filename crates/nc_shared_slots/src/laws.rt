@@ -11,5 +11,6 @@ ghost use Rattle.nc_slots.specs.declared.slot.Slot.{Slot as SlotOf};
 pub fn message_stays()
     ensures put { (message : Message) → message_of (filled message) ≡ Some message }
     ensures granted { (slot : SlotOf Message) → message_of (granted slot) ≡ message_of slot }
-    ensures polled { (slot : SlotOf Message) (is_held : Bool) (message : Message) → message_of slot ≡ Some message → message_of (polled is_held slot) ≡ Some message }
+    ensures polled { (slot : SlotOf Message) (is_held : Bool) (message : Message) → message_of slot ≡ Some message
+        → message_of (polled is_held slot) ≡ Some message }
 {}

@@ -60,7 +60,11 @@ pub fn load(words: &Words, pass: &mut Pass, word: usize) -> u64
     requires at { IsAt words.now.shared.table_id pass.old.table_id word }
     requires slot { Owns pass.old.me.0 word }
     ensures same { (pass.new.table_id ≡ pass.old.table_id) × (pass.new.id ≡ pass.old.id) }
-    ensures view { pass.new.me ≡ (with_slot pass.old.me.0 word (polled (nat_lt 0 (holds_in (slot_in pass.old.me.0 word) result)) (slot_in pass.old.me.0 word)), pass.old.me.1) }
+    ensures view { pass.new.me ≡ (
+      with_slot pass.old.me.0 word (polled (nat_lt 0 (holds_in (slot_in pass.old.me.0 word) result))
+          (slot_in pass.old.me.0 word)),
+      pass.old.me.1,
+    ) }
     ensures word { result ≡ bit_of (slot_in pass.old.me.0 word) + 2 * holds_in (slot_in pass.old.me.0 word) result }
     ensures most { holds_in (slot_in pass.old.me.0 word) result ≤ most_holds (slot_in pass.old.me.0 word) }
 {

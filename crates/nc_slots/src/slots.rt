@@ -79,7 +79,8 @@ pub trait Slots {
     /// Gives a hold back.
     fn release(&mut self, hold: Self::Hold)
         ensures slots { (o : ℕ) → slots self.new o ≡ slots self.old o }
-        ensures one_hold { exact ≡ true → holds self.new (held hold).owner ≡ slice_set (holds self.old (held hold).owner) (held hold).slot (slice_index (holds self.old (held hold).owner) (held hold).slot - 1) }
+        ensures one_hold { exact ≡ true → holds self.new (held hold).owner
+            ≡ slice_set (holds self.old (held hold).owner) (held hold).slot (slice_index (holds self.old (held hold).owner) (held hold).slot - 1) }
         ensures other_holds { exact ≡ true → (o : ℕ) → o ≢ (held hold).owner → holds self.new o ≡ holds self.old o };
 
     /// Takes a buffered slot's message out of grant. Those who hold it keep it.

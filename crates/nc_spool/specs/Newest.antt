@@ -43,7 +43,8 @@ edges_behind time k list j (e ∷ edges) b = edges_behind time k list (j + 1) ed
 -- what is known after them
 abbrev pub behind_edges : ℕ → ℕ → List (List ℕ) → ℕ → List Edge → Board → List Edge
 behind_edges time k list j [] b = []
-behind_edges time k list j (e ∷ edges) b = behind_edge time b.next e ∷ behind_edges time k list (j + 1) edges (edge_behind time k (slice_index_or list j []) e b)
+behind_edges time k list j (e ∷ edges) b =
+    behind_edge time b.next e ∷ behind_edges time k list (j + 1) edges (edge_behind time k (slice_index_or list j []) e b)
 
 -- a subscriber is started, and enters its spool
 abbrev pub begun : Reader → KeyAt → Board → Board
@@ -56,7 +57,8 @@ parked s b = record b { starts = b.starts ++ s ∷ [] }
 -- a subscriber waits for its second edges, with the cursor that the first ones gave
 abbrev pub parked_behind : Reader → List (List ℕ) → List Edge → CursorAt → Board → Board
 parked_behind r list edges cursor b =
-    parked (record { reader = r; list = list; edges = behind_edges cursor.time r.k list 0 edges b; cursor = Some cursor }) (edges_behind cursor.time r.k list 0 edges b)
+    parked (record { reader = r; list = list; edges = behind_edges cursor.time r.k list 0 edges b; cursor = Some cursor })
+    (edges_behind cursor.time r.k list 0 edges b)
 
 -- where an owner's floor is below the cursor's time, the second edges are made; else the subscriber is started
 abbrev pub second_by : Bool → Reader → List (List ℕ) → List Edge → CursorAt → Board → Board
@@ -91,4 +93,5 @@ edge_answered_by (Some s) number edge b = edge_heard number edge s b
 
 -- the answer to an edge: it goes to the subscriber that awaits its number
 abbrev pub edge_answered : ℕ → Edge → Board → Board
-edge_answered number edge b = edge_answered_by (find (start_awaits number) b.starts) number edge (record b { starts = without_first (start_awaits number) b.starts })
+edge_answered number edge b =
+    edge_answered_by (find (start_awaits number) b.starts) number edge (record b { starts = without_first (start_awaits number) b.starts })

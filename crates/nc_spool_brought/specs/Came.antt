@@ -75,4 +75,5 @@ module _ (first : ℕ) (Was : ℕ → List ℕ → Id → Type 0) (Came : List �
 
 -- so it is for any tests, which a contract can speak of
 abbrev pub CameRule : Type 0
-CameRule = (first : ℕ) (was : ℕ → List ℕ → Id → Bool) (came : List ℕ → News → Bool) → KeepsCame first (λ number c after. was number c after ≡ true) (λ c news. came c news ≡ true)
+CameRule = (first : ℕ) (was : ℕ → List ℕ → Id → Bool) (came : List ℕ → News → Bool)
+    → KeepsCame first (λ number c after. was number c after ≡ true) (λ c news. came c news ≡ true)

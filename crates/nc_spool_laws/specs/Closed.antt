@@ -26,7 +26,8 @@ first_key list (Given cursor) = record { list = list; cursor = cursor }
 -- each call keeps `In` of a board, where what a channel's notice brings is `Good`, what the answer to a look brings is `Right`, the id that an edge brings
 -- is a `Last` one, and the key of each spool `Fits`; between the small steps of a call, what is sent is `Ready`, and a spool and a start that were taken
 -- from the board are `Beside` and `Apart`
-module _ (Good : List ℕ → News → Type 0) (Right : ℕ → Quiet → Option News → Type 0) (Last : Id → Type 0) (Fits : KeyAt → Type 0) (Ready : Find → SpoolAt → Type 0) (In : Board → Type 0) (Beside : SpoolAt → Board → Type 0) (Apart : StartingAt → Board → Type 0) where
+module _ (Good : List ℕ → News → Type 0) (Right : ℕ → Quiet → Option News → Type 0) (Last : Id → Type 0) (Fits : KeyAt → Type 0)
+    (Ready : Find → SpoolAt → Type 0) (In : Board → Type 0) (Beside : SpoolAt → Board → Type 0) (Apart : StartingAt → Board → Type 0) where
   pub record IsKept : Type 0 where
     pub arrive : (r : Reader) (list : List (List ℕ)) (start : Start) (b : Board) → Fits (first_key list start) → In b → In (arrived r list start b)
     pub answer : (number : ℕ) (quiet : Quiet) (news : Option News) (b : Board) → Right number quiet news → In b → In (answered number quiet news b)

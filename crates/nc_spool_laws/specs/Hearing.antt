@@ -25,5 +25,7 @@ Heard c s = (j : ℕ) → place_of c s.key.list ≡ Some j → has_answer (place
 
 -- after a notice, and after a removal, no spool rests on an older answer
 pub record AreHeard : Type 0 where
-  pub notice : (c : List ℕ) (news : News) (b : Board) → AreAscending b.shelf → AllByRecursion IsWhole b.shelf → AllByRecursion (Heard c) (noticed c news b).shelf
-  pub removal : (c members : List ℕ) (b : Board) → AreAscending b.shelf → AllByRecursion IsWhole b.shelf → AllByRecursion (Heard c) (gone c members b).shelf
+  pub notice : (c : List ℕ) (news : News) (b : Board) → AreAscending b.shelf → AllByRecursion IsWhole b.shelf
+      → AllByRecursion (Heard c) (noticed c news b).shelf
+  pub removal : (c members : List ℕ) (b : Board) → AreAscending b.shelf → AllByRecursion IsWhole b.shelf
+      → AllByRecursion (Heard c) (gone c members b).shelf

@@ -55,8 +55,11 @@ module _ {H : Type 0} where
 -- and when no more is taken each has a use
 pub record HoldsRule (H : Type 0) : Type 0 where
   pub keep : (h : Held H) (kept : List (Held H)) → is_kept h.owner h.g kept ≡ false → AreRising kept → AreRising (with_hold h kept)
-  pub keep_held : (h : Held H) (kept : List (Held H)) (spools : List SpoolAt) → AllByRecursion (IsHeld kept) spools → AllByRecursion (IsHeld (with_hold h kept)) spools
+  pub keep_held : (h : Held H) (kept : List (Held H)) (spools : List SpoolAt) → AllByRecursion (IsHeld kept) spools
+      → AllByRecursion (IsHeld (with_hold h kept)) spools
   pub new_held : (h : Held H) (kept : List (Held H)) → is_kept h.owner h.g (with_hold h kept) ≡ true
   pub take : (kept : List (Held H)) (spools : List SpoolAt) → AreRising kept → AreRising (without_first (is_idle spools) kept)
-  pub take_held : (kept : List (Held H)) (spools : List SpoolAt) → AllByRecursion (IsHeld kept) spools → AllByRecursion (IsHeld (without_first (is_idle spools) kept)) spools
-  pub none_idle : (kept : List (Held H)) (spools : List SpoolAt) → find (is_idle spools) kept ≡ None → AllByRecursion (λ h. is_used h.owner h.g spools ≡ true) kept
+  pub take_held : (kept : List (Held H)) (spools : List SpoolAt) → AllByRecursion (IsHeld kept) spools
+      → AllByRecursion (IsHeld (without_first (is_idle spools) kept)) spools
+  pub none_idle : (kept : List (Held H)) (spools : List SpoolAt) → find (is_idle spools) kept ≡ None
+      → AllByRecursion (λ h. is_used h.owner h.g spools ≡ true) kept

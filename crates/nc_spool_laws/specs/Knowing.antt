@@ -82,4 +82,5 @@ module _ (Was : ℕ → List ℕ → Id → Type 0) (Rested : List ℕ → Id �
 abbrev pub KnowingRule : Type 0
 KnowingRule =
     (was : ℕ → List ℕ → Id → Bool) (rested : List ℕ → Id → Quiet → Bool) (came : List ℕ → Id → ℕ → News → Bool)
-    → KeepsKnowing (λ number c after. was number c after ≡ true) (λ c after quiet. rested c after quiet ≡ true) (λ c after q news. came c after q news ≡ true)
+    → KeepsKnowing (λ number c after. was number c after ≡ true) (λ c after quiet. rested c after quiet ≡ true)
+    (λ c after q news. came c after q news ≡ true)

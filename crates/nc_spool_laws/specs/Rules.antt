@@ -47,9 +47,12 @@ pub record SendingRule : Type 0 where
   -- what each is sent
   pub each : (find : Find) (s : SpoolAt) (r : Reader) → IsSending find s r (sending (delivery find s) r)
   -- a direct or long-poll subscriber ends by it, and parts from each channel, before the next one is sent the message
-  pub once : (find : Find) (s : SpoolAt) (r : Reader) (b : Board) → r.once ≡ true → sent_one (delivery find s) b r ≡ ended r.k false s.key.list (told (Sent (sending (delivery find s) r)) b)
+  pub once : (find : Find) (s : SpoolAt) (r : Reader) (b : Board) → r.once ≡ true
+      → sent_one (delivery find s) b r ≡ ended r.k false s.key.list (told (Sent (sending (delivery find s) r)) b)
   -- another one enters the spool of the moved cursor before that
-  pub stays : (find : Find) (s : SpoolAt) (r : Reader) (b : Board) → r.once ≡ false → sent_one (delivery find s) b r ≡ entered (record s.key { cursor = moved s.key.cursor find.place find.id }) r (told (Sent (sending (delivery find s) r)) b)
+  pub stays : (find : Find) (s : SpoolAt) (r : Reader) (b : Board) → r.once ≡ false
+      → sent_one (delivery find s) b r ≡ entered (record s.key { cursor = moved s.key.cursor find.place find.id }) r
+      (told (Sent (sending (delivery find s) r)) b)
 
 -- where its spool stands, an entering subscriber makes no look
 abbrev pub EnteringRule : Type 0

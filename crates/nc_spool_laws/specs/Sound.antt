@@ -34,13 +34,17 @@ IsNew s found = is_kept found.held.owner found.held.g s.kept ≡ false
 -- each call keeps it
 pub record KeepsSound (H : Type 0) : Type 0 where
   pub empty : (workers first : ℕ) → IsSound {H = H} (new_spools workers first)
-  pub arrive : (k : ℕ) (list : List (List ℕ)) (start : Start) (once : Bool) (s : SpoolsAt H) → stands k (board_of s) ≡ 0 → IsSound s → IsSound (arrive_after k list start once s)
-  pub answer : (number q floor : ℕ) (found : Option (Found H)) (s : SpoolsAt H) → IfSome found (IsNew s) → IsSound s → IsSound (answer_after number q floor found s)
+  pub arrive : (k : ℕ) (list : List (List ℕ)) (start : Start) (once : Bool) (s : SpoolsAt H) → stands k (board_of s) ≡ 0 → IsSound s
+      → IsSound (arrive_after k list start once s)
+  pub answer : (number q floor : ℕ) (found : Option (Found H)) (s : SpoolsAt H) → IfSome found (IsNew s) → IsSound s
+      → IsSound (answer_after number q floor found s)
   pub edge_answer : (number floor : ℕ) (last : Id) (s : SpoolsAt H) → IsSound s → IsSound (edge_after number floor last s)
   pub notice : (c : List ℕ) (found : Found H) (s : SpoolsAt H) → IsNew s found → IsSound s → IsSound (notice_after c found s)
   pub removal : (c members : List ℕ) (s : SpoolsAt H) → IsSound s → IsSound (gone_after c members s)
   pub depart : (k : ℕ) (s : SpoolsAt H) → IsSound s → IsSound (depart_after k s)
   pub idle : (s : SpoolsAt H) → IsSound s → IsSound (without_idle s)
   -- the hold of each message that is sent is kept when the call is over
-  pub answer_held : (number q floor : ℕ) (found : Option (Found H)) (s : SpoolsAt H) → IsSound s → AllByRecursion (FactHeld (with_found found s.kept)) (answer_facts number q floor found s)
-  pub notice_held : (c : List ℕ) (found : Found H) (s : SpoolsAt H) → IsSound s → AllByRecursion (FactHeld (with_hold found.held s.kept)) (notice_facts c found s)
+  pub answer_held : (number q floor : ℕ) (found : Option (Found H)) (s : SpoolsAt H) → IsSound s
+      → AllByRecursion (FactHeld (with_found found s.kept)) (answer_facts number q floor found s)
+  pub notice_held : (c : List ℕ) (found : Found H) (s : SpoolsAt H) → IsSound s
+      → AllByRecursion (FactHeld (with_hold found.held s.kept)) (notice_facts c found s)

@@ -59,7 +59,8 @@ module _ {H : Type 0} (c : List ℕ) (k : ℕ) where
 
   -- who comes joins, and who goes parts
   pub record CallsTell (s : SpoolsAt H) : Type 0 where
-    pub arrive : (n : ℕ) (list : List (List ℕ)) (start : Start) (once : Bool) → IsTold s (arrive_facts n list start once s) (arrive_after n list start once s)
+    pub arrive : (n : ℕ) (list : List (List ℕ)) (start : Start) (once : Bool)
+        → IsTold s (arrive_facts n list start once s) (arrive_after n list start once s)
     pub answer : (number q floor : ℕ) (found : Option (Found H)) → IsTold s (answer_facts number q floor found s) (answer_after number q floor found s)
     pub edge_answer : (number floor : ℕ) (last : Id) → IsTold s (edge_facts number floor last s) (edge_after number floor last s)
     pub notice : (d : List ℕ) (found : Found H) → IsTold s (notice_facts d found s) (notice_after d found s)
@@ -90,7 +91,8 @@ joins_told c k (f ∷ facts) = joins_told c k facts
 
 -- nobody joins but who comes, and that one joins each channel of its list once
 pub record CallsJoin {H : Type 0} (c : List ℕ) (k : ℕ) (s : SpoolsAt H) : Type 0 where
-  pub arrive : (n : ℕ) (list : List (List ℕ)) (start : Start) (once : Bool) → AreDistinct list → joins_told c k (arrive_facts n list start once s) ≤ (if n == k then 1 else 0)
+  pub arrive : (n : ℕ) (list : List (List ℕ)) (start : Start) (once : Bool) → AreDistinct list
+      → joins_told c k (arrive_facts n list start once s) ≤ (if n == k then 1 else 0)
   pub answer : (number q floor : ℕ) (found : Option (Found H)) → joins_told c k (answer_facts number q floor found s) ≡ 0
   pub edge_answer : (number floor : ℕ) (last : Id) → joins_told c k (edge_facts number floor last s) ≡ 0
   pub notice : (d : List ℕ) (found : Found H) → joins_told c k (notice_facts d found s) ≡ 0

@@ -15,7 +15,8 @@ pub record StandSingly {H : Type 0} (s : SpoolsAt H) : Type 0 where
 
 -- each call keeps it, where who comes is new and its list and start fit
 pub record CallsKeepSingly {H : Type 0} (s : SpoolsAt H) : Type 0 where
-  pub arrive : (k : ℕ) (list : List (List ℕ)) (start : Start) (once : Bool) → stands k (board_of s) ≡ 0 → IsFitting (first_key list start) → StandSingly (arrive_after k list start once s)
+  pub arrive : (k : ℕ) (list : List (List ℕ)) (start : Start) (once : Bool) → stands k (board_of s) ≡ 0 → IsFitting (first_key list start)
+      → StandSingly (arrive_after k list start once s)
   pub answer : (number q floor : ℕ) (found : Option (Found H)) → StandSingly (answer_after number q floor found s)
   pub edge_answer : (number floor : ℕ) (last : Id) → StandSingly (edge_after number floor last s)
   pub notice : (d : List ℕ) (found : Found H) → StandSingly (notice_after d found s)

@@ -54,7 +54,8 @@ module _ {H : Type 0} (k : ℕ) (out stage : Stage) (s : SpoolsAt H) where
 
   pub record CallsStage : Type 0 where
     -- another one comes
-    pub arrive : (n : ℕ) (list : List (List ℕ)) (start : Start) (once : Bool) → (n == k) ≡ false → StaysStaged (arrive_facts n list start once s) (arrive_after n list start once s)
+    pub arrive : (n : ℕ) (list : List (List ℕ)) (start : Start) (once : Bool) → (n == k) ≡ false
+        → StaysStaged (arrive_facts n list start once s) (arrive_after n list start once s)
     pub answer : (number q floor : ℕ) (found : Option (Found H)) → StaysStaged (answer_facts number q floor found s) (answer_after number q floor found s)
     pub edge_answer : (number floor : ℕ) (last : Id) → StaysStaged (edge_facts number floor last s) (edge_after number floor last s)
     pub notice : (d : List ℕ) (found : Found H) → StaysStaged (notice_facts d found s) (notice_after d found s)
@@ -64,4 +65,5 @@ module _ {H : Type 0} (k : ℕ) (out stage : Stage) (s : SpoolsAt H) where
 -- each call leaves each subscriber the stage that the spools say; one that comes was subscribed before
 pub record KeepStages (H : Type 0) : Type 0 where
   pub calls : (k : ℕ) (out stage : Stage) (s : SpoolsAt H) → HasStage k out stage (board_of s) → CallsStage k out stage s
-  pub comes : (k : ℕ) (list : List (List ℕ)) (start : Start) (once : Bool) (s : SpoolsAt H) → stands k (board_of s) ≡ 0 → HasStage k Over (stage_told k (Starting list once start) (arrive_facts k list start once s)) (board_of (arrive_after k list start once s))
+  pub comes : (k : ℕ) (list : List (List ℕ)) (start : Start) (once : Bool) (s : SpoolsAt H) → stands k (board_of s) ≡ 0
+      → HasStage k Over (stage_told k (Starting list once start) (arrive_facts k list start once s)) (board_of (arrive_after k list start once s))

@@ -21,7 +21,8 @@ IsAmong x (start ∷ starts) = (x ≡ start) ⊎ IsAmong x starts
 
 -- then it is started at once; where all are started, a call leaves it so; and a removal leaves some of those that aren't started
 pub record StartsStay {H : Type 0} (s : SpoolsAt H) : Type 0 where
-  pub arrive : (k : ℕ) (list : List (List ℕ)) (start : Start) (once : Bool) → IsKnownStart start → (arrive_after k list start once s).starts ≡ s.starts
+  pub arrive : (k : ℕ) (list : List (List ℕ)) (start : Start) (once : Bool) → IsKnownStart start
+      → (arrive_after k list start once s).starts ≡ s.starts
   pub answer : (number q floor : ℕ) (found : Option (Found H)) → (answer_after number q floor found s).starts ≡ s.starts
   pub edge_answer : (number floor : ℕ) (last : Id) → s.starts ≡ [] → (edge_after number floor last s).starts ≡ []
   pub notice : (d : List ℕ) (found : Found H) → (notice_after d found s).starts ≡ s.starts

@@ -19,7 +19,7 @@ pub struct Held<H> {
     pub hold: H,
 }
 
-/// Holds in ascending order of owner and grant.
+/// Holds in ascending order of owner and grant. After want of memory they are only to be dropped.
 #[derive(Drop)]
 pub struct Kept<H> {
     holds: Vec<Held<H>>,

@@ -14,7 +14,7 @@ use std::cmp::Ordering;
 use std::marker::Model;
 
 /// Spools in ascending order of list and cursor, and how many of their found places use each hold.
-/// A step takes a spool out, works on it, and puts it back.
+/// A step takes a spool out, works on it, and puts it back. After want of memory it is only to be dropped.
 #[derive(Drop)]
 pub struct Shelf {
     spools: Vec<Spool>,

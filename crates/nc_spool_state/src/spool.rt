@@ -16,6 +16,7 @@ pub struct Reader {
 }
 
 /// Subscribers with one list that stand behind one cursor, in ascending order, and what is known past it of each channel.
+/// After want of memory it is only to be dropped.
 #[derive(Drop)]
 pub struct Spool {
     pub key: SpoolKey,

@@ -65,6 +65,7 @@ impl Starting {
 }
 
 /// The subscribers that aren't started yet, in the order in which they came or went on.
+/// After want of memory they are only to be dropped.
 #[derive(Drop)]
 pub struct Starts {
     starts: Vec<Starting>,

@@ -18,7 +18,8 @@ pub data EdgesTold (time : ℕ) (last : Id) : List EdgeTold → Type 0 where
 abbrev pub ToldStarts : Type 0
 ToldStarts = (workers w k : ℕ) (list : List (List ℕ)) (lasts : List Id) (h : List Event) → AllByRecursion (IsByOwner workers) h
     → length lasts ≡ length list
-    → ((j : ℕ) (c : List ℕ) (last : Id) → slice_get list j ≡ Some c → slice_get lasts j ≡ Some last → EdgesTold (greatest_time lasts) last (edges_of w k c h))
+    → ((j : ℕ) (c : List ℕ) (last : Id) → slice_get list j ≡ Some c → slice_get lasts j ≡ Some last
+    → EdgesTold (greatest_time lasts) last (edges_of w k c h))
     → StartsByEdges workers w k list (cursor_behind lasts) h
 
 -- the last id that an edge was answered with

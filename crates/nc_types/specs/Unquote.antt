@@ -8,14 +8,16 @@ use Rattle.nc_types.specs.declared.unquote.UnquoteFault.TheVariants as faults
 
 -- a letter behind a backslash, and the byte that it stands for: `"` and `\` themselves, `n` LF, `r` CR, `t` TAB
 abbrev pub IsLetterOf : ℕ → ℕ → Type 0
-IsLetterOf byte c = ((c ≡ 34) × (byte ≡ 34)) ⊎ (((c ≡ 92) × (byte ≡ 92)) ⊎ (((c ≡ 110) × (byte ≡ 10)) ⊎ (((c ≡ 114) × (byte ≡ 13)) ⊎ ((c ≡ 116) × (byte ≡ 9)))))
+IsLetterOf byte c = ((c ≡ 34) × (byte ≡ 34)) ⊎ (((c ≡ 92) × (byte ≡ 92))
+    ⊎ (((c ≡ 110) × (byte ≡ 10)) ⊎ (((c ≡ 114) × (byte ≡ 13)) ⊎ ((c ≡ 116) × (byte ≡ 9)))))
 
 -- a text begins with a piece that stands for the byte, and the rest stands behind the piece:
 -- the byte itself, a backslash and a letter, or a backslash, `x` and two digits of base 16 in either case
 pub data IsNext (text : List ℕ) (byte : ℕ) (rest : List ℕ) : Type 0 where
   itself : byte ≢ 34 → byte ≢ 92 → text ≡ byte ∷ rest → IsNext text byte rest
   letter : (c : ℕ) → IsLetterOf byte c → text ≡ 92 ∷ c ∷ rest → IsNext text byte rest
-  digits : (high low : ℕ) → AllDigits 16 (high ∷ low ∷ []) → byte ≡ digits_value 16 (high ∷ low ∷ []) → text ≡ 92 ∷ 120 ∷ high ∷ low ∷ rest → IsNext text byte rest
+  digits : (high low : ℕ) → AllDigits 16 (high ∷ low ∷ []) → byte ≡ digits_value 16 (high ∷ low ∷ [])
+      → text ≡ 92 ∷ 120 ∷ high ∷ low ∷ rest → IsNext text byte rest
 
 -- no piece begins a text
 abbrev pub BeginsNoPiece : List ℕ → Type 0
@@ -42,7 +44,8 @@ IsPlaceOf text at rest = at + length rest ≡ length text
 -- what follows the closing sign, or the text's end
 pub data IsFaultAt (text : List ℕ) (at : ℕ) : Type 0 where
   not_opened : ((rest : List ℕ) → text ≢ 34 ∷ rest) → at ≡ 0 → IsFaultAt text at
-  bad_escape : (bytes escape : List ℕ) → ReadsTo text bytes (92 ∷ escape) → BeginsNoPiece (92 ∷ escape) → IsPlaceOf text at (92 ∷ escape) → IsFaultAt text at
+  bad_escape : (bytes escape : List ℕ) → ReadsTo text bytes (92 ∷ escape) → BeginsNoPiece (92 ∷ escape)
+      → IsPlaceOf text at (92 ∷ escape) → IsFaultAt text at
   more_follows : (bytes more : List ℕ) → ReadsTo text bytes (34 ∷ more) → more ≢ [] → IsPlaceOf text at more → IsFaultAt text at
   not_closed : (bytes : List ℕ) → ReadsTo text bytes [] → at ≡ length text → IsFaultAt text at
 

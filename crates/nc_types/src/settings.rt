@@ -25,9 +25,23 @@ impl Model for Settings {
 
     ghost Value = { SettingsAt };
 
-    ghost view = { λ s. record { length = s.length; timeout = s.timeout; sub_timeout = s.sub_timeout; newest = s.newest; max_name = s.max_name; max_body = s.max_body } };
+    ghost view = { λ s. record {
+      length = s.length;
+      timeout = s.timeout;
+      sub_timeout = s.sub_timeout;
+      newest = s.newest;
+      max_name = s.max_name;
+      max_body = s.max_body;
+    } };
 
     ghost invariant = { λ s. IsLength s.length × IsSeconds s.timeout × IsSeconds s.sub_timeout × IsNameLimit s.max_name × IsBodyLimit s.max_body };
 
-    ghost inverse = { λ s. record { length = s.length; timeout = s.timeout; sub_timeout = s.sub_timeout; newest = s.newest; max_name = s.max_name; max_body = s.max_body } };
+    ghost inverse = { λ s. record {
+      length = s.length;
+      timeout = s.timeout;
+      sub_timeout = s.sub_timeout;
+      newest = s.newest;
+      max_name = s.max_name;
+      max_body = s.max_body;
+    } };
 }

@@ -38,10 +38,12 @@ abbrev pub acted_events : ℕ → (ℕ → ℕ) → List Event → OwnersPart �
 acted_events me next before p r = before ++ part_woven me next p ++ told me (next_after next (part_woven me next p)) r.deeds
 
 -- a step up to the releases
-pub record Acts {H : Type 0} (held : H → HoldAt) (exact : Bool) (incoming : Incoming) (before : List Event) (r : Served) (slots new_slots : ℕ → List (Slot Message)) (holds new_holds : ℕ → List ℕ) (old new : Parts H) : Type 0 where
+pub record Acts {H : Type 0} (held : H → HoldAt) (exact : Bool) (incoming : Incoming) (before : List Event) (r : Served)
+    (slots new_slots : ℕ → List (Slot Message)) (holds new_holds : ℕ → List ℕ) (old new : Parts H) : Type 0 where
   pub polls : StepPolls
   pub fit : StepPollsFit exact incoming (holding_at slots holds old.owner) polls
   pub leaves : Leaves exact (owned_in polls incoming (holding_at slots holds old.owner)).last.after slots new_slots holds new_holds old.owner new.owner
   pub desk : told_desk new.desk ≡ r.after
-  pub tells : TellsMore old.scribe new.scribe (acted_events (me_of old) (next_of old.scribe.outboxes) before (owned_in polls incoming (holding_at slots holds old.owner)) r)
+  pub tells : TellsMore old.scribe new.scribe (acted_events (me_of old) (next_of old.scribe.outboxes) before
+      (owned_in polls incoming (holding_at slots holds old.owner)) r)
   pub sound : AreSound held new

@@ -43,7 +43,10 @@ without r waiting = filter (λ x. not (x == r)) waiting
 
 -- the answer to a request that waits goes on to who asked; another answer is dropped
 abbrev pub replied : ℕ → ℕ → ℕ → Option Info → Desk → Served
-replied me r status info d = if is_waiting r d.waiting then (record { deeds = Does (Answered me r None status info false false) ∷ []; after = record d { waiting = without r d.waiting } }) else unserved d
+replied me r status info d = if is_waiting r d.waiting then (record {
+  deeds = Does (Answered me r None status info false false) ∷ [];
+  after = record d { waiting = without r d.waiting };
+}) else unserved d
 
 -- a call of the spools
 abbrev pub with_spooled : Spooled → Desk → Served

@@ -45,7 +45,11 @@ abbrev pub published_by : ℕ → Order → Polls → Holding → Owned
 published_by from o polls s = record {
   events = publish_events from o polls s.row s.owner;
   alerts = publish_alerts from o polls s.row s.owner;
-  after = record { owner = publish_after o polls s.row s.owner; row = publish_row o polls s.row s.owner; counts = publish_holds o polls s.row s.owner s.counts };
+  after = record {
+    owner = publish_after o polls s.row s.owner;
+    row = publish_row o polls s.row s.owner;
+    counts = publish_holds o polls s.row s.owner s.counts;
+  };
 }
 
 abbrev pub looked_by : ℕ → ℕ → List ℕ → Id → Holding → Owned
@@ -57,7 +61,8 @@ looked_by from number c id s = record {
 
 -- a step that touches a channel and leaves all holds as they are
 abbrev pub touched_by : List ℕ → List Event → List OutLine → OwnerAt → Holding → Owned
-touched_by c events alerts owner s = record { events = events; alerts = alerts; after = record { owner = owner; row = touched_row c s.row s.owner; counts = s.counts } }
+touched_by c events alerts owner s =
+    record { events = events; alerts = alerts; after = record { owner = owner; row = touched_row c s.row s.owner; counts = s.counts } }
 
 abbrev pub joined_by : Member → List ℕ → Holding → Owned
 joined_by m c s = touched_by c (join_events m c s.row s.owner) [] (join_after m c s.row s.owner) s

@@ -59,7 +59,8 @@ abbrev pub arrives : ℕ → ℕ → List (List ℕ) → Start → Bool → Spoo
 arrives me k list start once s = record { deeds = facts_deeds me Answered (arrive_facts k list start once s); after = arrive_after k list start once s }
 
 abbrev pub answers : ℕ → ℕ → ℕ → ℕ → Option (Found Hold) → SpoolsAt Hold → Spooled
-answers me number q floor found s = record { deeds = facts_deeds me Answered (answer_facts number q floor found s); after = answer_after number q floor found s }
+answers me number q floor found s =
+    record { deeds = facts_deeds me Answered (answer_facts number q floor found s); after = answer_after number q floor found s }
 
 abbrev pub edges : ℕ → ℕ → ℕ → Id → SpoolsAt Hold → Spooled
 edges me number floor last s = record { deeds = facts_deeds me Answered (edge_facts number floor last s); after = edge_after number floor last s }

@@ -69,7 +69,8 @@ MayMove m h carried after events = Unless (can h carried m) (IsMoveOf m h carrie
 -- ---- settling
 
 -- a turn that does something, and what follows it
-pub record Turn (m : Move) (go : List Event → Carried → List Event → Carried → Type 0) (h : List Event) (carried : Carried) (events : List Event) (after : Carried) : Type 0 where
+pub record Turn (m : Move) (go : List Event → Carried → List Event → Carried → Type 0) (h : List Event) (carried : Carried)
+    (events : List Event) (after : Carried) : Type 0 where
   pub step : List Event
   pub behind : List Event
   pub between : Carried
@@ -106,7 +107,8 @@ pub record Settled (workers n : ℕ) (h : List Event) (carried : Carried) (event
 pub record IsPost (setup : Setup) (w : ℕ) (c body : List ℕ) (events : List Event) : Type 0 where
   pub r : ℕ
   pub n : ℕ
-  pub same : events ≡ Asked w r None acts.Publish (Some (c ∷ [])) 0 0 ∷ Made w (owner_of setup.workers c) n (alerts.Publish r c setup.length setup.timeout None body) ∷ []
+  pub same : events ≡ Asked w r None acts.Publish (Some (c ∷ [])) 0 0
+      ∷ Made w (owner_of setup.workers c) n (alerts.Publish r c setup.length setup.timeout None body) ∷ []
 
 pub record IsRemove (setup : Setup) (w : ℕ) (c : List ℕ) (events : List Event) : Type 0 where
   pub r : ℕ
@@ -127,7 +129,8 @@ IsSegment setup (Carry w v) h carried events after = Ends setup.workers (MayMove
 IsSegment setup (Take w v) h carried events after = Ends setup.workers (MayMove (Takes w v) h carried after) h events
 IsSegment setup (Settle n) h carried events after = Settled setup.workers n h carried events after
 IsSegment setup (Post w c body) h carried events after = Ends setup.workers (IsPost setup w c body) h events × IsSame after carried
-IsSegment setup (Poll w k list start) h carried events after = Ends setup.workers (IsStepFrom (Subscribed w k None list Direct start setup.sub_timeout false)) h events × IsSame after carried
+IsSegment setup (Poll w k list start) h carried events after =
+    Ends setup.workers (IsStepFrom (Subscribed w k None list Direct start setup.sub_timeout false)) h events × IsSame after carried
 IsSegment setup (Remove w c) h carried events after = Ends setup.workers (IsRemove setup w c) h events × IsSame after carried
 IsSegment setup (Inform w c) h carried events after = Ends setup.workers (IsInform setup w c) h events × IsSame after carried
 

@@ -53,8 +53,10 @@ AreNoOwners events = AllByRecursion IsNoOwners events
 
 -- the events behind an alert that was taken as this packet: an owner's step, or nothing of an owner
 abbrev pub IsStepOf : Setup → ℕ → ℕ → ℕ → AlertLine → List Event → List Event → Type 0
-IsStepOf setup w from n (lines.Publish r c len timeout ct body) h events = IsOwnersStep setup w (TakesPacket from (packet n (lines.Publish r c len timeout ct body))) h events
-IsStepOf setup w from n (lines.Look number c after fence) h events = IsOwnersStep setup w (TakesPacket from (packet n (lines.Look number c after fence))) h events
+IsStepOf setup w from n (lines.Publish r c len timeout ct body) h events =
+    IsOwnersStep setup w (TakesPacket from (packet n (lines.Publish r c len timeout ct body))) h events
+IsStepOf setup w from n (lines.Look number c after fence) h events =
+    IsOwnersStep setup w (TakesPacket from (packet n (lines.Look number c after fence))) h events
 IsStepOf setup w from n (lines.Edge number k c fence) h events = IsOwnersStep setup w (TakesPacket from (packet n (lines.Edge number k c fence))) h events
 IsStepOf setup w from n (lines.Join c k) h events = IsOwnersStep setup w (TakesPacket from (packet n (lines.Join c k))) h events
 IsStepOf setup w from n (lines.Part c k) h events = IsOwnersStep setup w (TakesPacket from (packet n (lines.Part c k))) h events

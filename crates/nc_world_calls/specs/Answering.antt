@@ -46,7 +46,8 @@ after_answer me from n kind next number q floor found s h = onto (told me next (
 
 -- it writes only lawful sends
 abbrev pub AnswerSendsWell : Type 0
-AnswerSendsWell = (workers me from n number q floor : ℕ) (kind : AlertKind) (found : Option (Found Hold)) (g slot : Option ℕ) (next : ℕ → ℕ) (h : List Event) (s : SpoolsAt Hold)
+AnswerSendsWell = (workers me from n number q floor : ℕ) (kind : AlertKind) (found : Option (Found Hold)) (g slot : Option ℕ) (next : ℕ → ℕ)
+    (h : List Event) (s : SpoolsAt Hold)
     → Owners workers h → ((o : ℕ) → Along AnswersAt (own o h)) → AsksWell me h → IsNext from me (answer_of number q floor found g slot) h
     → SpoolsKnow workers me h s.shelf → Along (IsGoodSend workers) h
     → Along (IsGoodSend workers) (after_answer me from n kind next number q floor found s h)
@@ -60,7 +61,8 @@ AnswerStands = (me from n number q floor : ℕ) (kind : AlertKind) (found : Opti
 
 -- and each place of each spool holds, where no number is drawn twice, also in the step
 abbrev pub AnswerKnows : Type 0
-AnswerKnows = (workers me from n number q floor : ℕ) (kind : AlertKind) (found : Option (Found Hold)) (g slot : Option ℕ) (next : ℕ → ℕ) (h : List Event) (s : SpoolsAt Hold)
+AnswerKnows = (workers me from n number q floor : ℕ) (kind : AlertKind) (found : Option (Found Hold)) (g slot : Option ℕ) (next : ℕ → ℕ)
+    (h : List Event) (s : SpoolsAt Hold)
     → Owners workers h → ((o : ℕ) → Along AnswersAt (own o h)) → AsksWell me h → IsNext from me (answer_of number q floor found g slot) h
     → times number (ask_numbers (own me (after_answer me from n kind next number q floor found s h))) ≤ 1
     → AllByRecursion (PlacesHold workers me h) s.shelf

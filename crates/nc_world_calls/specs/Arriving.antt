@@ -19,7 +19,8 @@ after_arrival me next k list start once s h = onto (told me next (arrives me k l
 
 -- it writes no sends
 abbrev pub ArrivalSendsNothing : Type 0
-ArrivalSendsNothing = (workers me : ℕ) (next : ℕ → ℕ) (k : ℕ) (list : List (List ℕ)) (start : Start) (once : Bool) (s : SpoolsAt Hold) (h : List Event)
+ArrivalSendsNothing =
+    (workers me : ℕ) (next : ℕ → ℕ) (k : ℕ) (list : List (List ℕ)) (start : Start) (once : Bool) (s : SpoolsAt Hold) (h : List Event)
     → Along (IsGoodSend workers) h → Along (IsGoodSend workers) (after_arrival me next k list start once s h)
 
 -- where it stood nowhere, each subscriber of a spool stands then at its key: also the one that came, unless it begins behind the newest messages

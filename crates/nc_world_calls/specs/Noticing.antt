@@ -43,7 +43,8 @@ after_notice workers me n kind next c found s h = onto (told me next (notices me
 
 -- the step writes only lawful sends, and leaves each subscriber standing at the key of its spool
 abbrev pub NoticeSendsWell : Type 0
-NoticeSendsWell = (workers me n : ℕ) (c : List ℕ) (found : Found Hold) (g slot : ℕ) (kind : AlertKind) (next : ℕ → ℕ) (h : List Event) (s : SpoolsAt Hold)
+NoticeSendsWell =
+    (workers me n : ℕ) (c : List ℕ) (found : Found Hold) (g slot : ℕ) (kind : AlertKind) (next : ℕ → ℕ) (h : List Event) (s : SpoolsAt Hold)
     → Owners workers h → OwnerTells (owner_of workers c) (own (owner_of workers c) h)
     → IsNext (owner_of workers c) me (Notice c (news_of found).id g slot) h → StandOnce (board_of s)
     → AllByRecursion (λ x. SpoolKnows workers me x h) s.shelf → AllByRecursion (λ x. StandHere me x h) s.shelf → Along (IsGoodSend workers) h
@@ -52,7 +53,8 @@ NoticeSendsWell = (workers me n : ℕ) (c : List ℕ) (found : Found Hold) (g sl
 
 -- and each place of each spool holds
 abbrev pub NoticeKnows : Type 0
-NoticeKnows = (workers me n : ℕ) (c : List ℕ) (found : Found Hold) (g slot : ℕ) (kind : AlertKind) (next : ℕ → ℕ) (h : List Event) (s : SpoolsAt Hold)
+NoticeKnows =
+    (workers me n : ℕ) (c : List ℕ) (found : Found Hold) (g slot : ℕ) (kind : AlertKind) (next : ℕ → ℕ) (h : List Event) (s : SpoolsAt Hold)
     → OwnerTells (owner_of workers c) (own (owner_of workers c) h) → IsNext (owner_of workers c) me (Notice c (news_of found).id g slot) h
     → AreAscending s.shelf → AllByRecursion IsWhole s.shelf → AllByRecursion SpoolFits (notice_after c found s).shelf
     → AllByRecursion (PlacesHold workers me h) s.shelf

@@ -17,7 +17,8 @@ IsBetween workers _ = Unit {0}
 
 -- so nothing is pending between others
 abbrev pub PacketsAreBetween : Type 0
-PacketsAreBetween = OfHistories (λ setup h. AllByRecursion (IsBetween setup.workers) h × ((v w : ℕ) → (setup.workers ≤ v) ⊎ (setup.workers ≤ w) → pending v w h ≡ []))
+PacketsAreBetween = OfHistories (λ setup h. AllByRecursion (IsBetween setup.workers) h
+    × ((v w : ℕ) → (setup.workers ≤ v) ⊎ (setup.workers ≤ w) → pending v w h ≡ []))
 
 -- where it is told how many alerts are pending, so many are, and at quiet none is
 abbrev pub CountedAt : ℕ → List Event → Event → Type 0

@@ -30,7 +30,8 @@ HistoriesAreOfOwners = OfHistories (λ setup h. AreByChannelOwners setup.workers
 
 -- the messages of a channel, and those that are buffered, are told by its owner's history alone
 abbrev pub OwnersTellBuffers : Type 0
-OwnersTellBuffers = OfHistories (λ setup h. (c : List ℕ) → (published c h ≡ published c (own (owner_of setup.workers c) h)) × (buffer c h ≡ buffer c (own (owner_of setup.workers c) h)))
+OwnersTellBuffers = OfHistories (λ setup h. (c : List ℕ) → (published c h ≡ published c (own (owner_of setup.workers c) h))
+    × (buffer c h ≡ buffer c (own (owner_of setup.workers c) h)))
 
 -- packets are numbered and taken in their order: what a worker took from another and what it hasn't taken yet are what that one made for it
 abbrev pub HistoriesArePosted : Type 0

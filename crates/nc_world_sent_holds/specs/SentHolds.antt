@@ -21,4 +21,5 @@ HistoriesKeepSlotRule = OfHistories (λ setup h. IsSlotRule setup.workers setup.
 
 -- so with the holds that there are, the releases are the grants
 abbrev pub HistoriesCountHolds : Type 0
-HistoriesCountHolds = OfHistories (λ setup h. (owner slot : ℕ) → holds owner slot h + times_so (releases_slot owner slot) h ≡ times_so (grants_slot owner slot) h)
+HistoriesCountHolds =
+    OfHistories (λ setup h. (owner slot : ℕ) → holds owner slot h + times_so (releases_slot owner slot) h ≡ times_so (grants_slot owner slot) h)
